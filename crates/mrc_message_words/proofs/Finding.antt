@@ -13,6 +13,7 @@ use Rattle.mrc_forms.specs.declared.form.MessageKind.{MessageKind}
 use Rattle.mrc_forms.specs.Forms.{Form}
 use Rattle.mrc_forms.specs.Tables.{Table, AreForms, form_in, form_at, form_of, form_named}
 use Rattle.mrc_forms.specs.Tables.{forms_by, first_id}
+use Rattle.mrc_message_words.specs.Spoken.{NoneBefore, IsFirstSpoken}
 use Rattle.mrc_message_words.specs.Spoken.{Said, IsSaidOver, IsSpoken, form_by, table_named}
 use Rattle.mrc_message_words.specs.Fitting.{IsHeard}
 
@@ -158,7 +159,7 @@ pub heard_by : (tables : List Table) (kind : MessageKind) (table : Table) (m : M
     → MatchOption answer
     ((said : Said) → said.kind ≡ kind → table_named tables said.interface ≡ Some table
     → ¬ IsSpoken tables said m)
-    (λ said. IsSpoken tables said m)
+    (λ said. (said.interface ≡ table.name) × IsSpoken tables said m)
 heard_by tables kind table m id form named None formed same is by none =
     λ said k first h.
     let s = same_form tables kind table m id form formed same is said k first h in
@@ -166,15 +167,17 @@ heard_by tables kind table m id form named None formed same is by none =
     let p : named ≡ form = cc (e, by) in
     none said k (subst (λ (x : Form). IsSaidOver x said m) (s.0 ∙ sym p) h.over)
 heard_by tables kind table m id form named (Some said) formed same is by heard =
-    let h = heard.0 in
-    record {
-      form = named;
-      named =
-          ap (λ (x : MessageKind). form_by tables x said.interface said.routine) h.same_kind
-          ∙ ap (λ (x : List ℕ). form_by tables kind x said.routine) h.same_interface
-          ∙ ap (λ (x : List ℕ). form_by tables kind table.name x) h.same_routine ∙ by;
-      over = heard.1;
-    }
+    let h = heard.0 in (
+      h.same_interface,
+      record {
+        form = named;
+        named =
+            ap (λ (x : MessageKind). form_by tables x said.interface said.routine) h.same_kind
+            ∙ ap (λ (x : List ℕ). form_by tables kind x said.routine) h.same_interface
+            ∙ ap (λ (x : List ℕ). form_by tables kind table.name x) h.same_routine ∙ by;
+        over = heard.1;
+      },
+    )
 
 pub heard_ok : {E : Type 0} (tables : List Table) (kind : MessageKind) (table : Table) (m : Message)
     (id : ℕ) (form named : Form) (answer : Result (Option Said) E)
@@ -187,17 +190,12 @@ pub heard_ok : {E : Type 0} (tables : List Table) (kind : MessageKind) (table : 
     MatchOption o
     ((said : Said) → said.kind ≡ kind → table_named tables said.interface ≡ Some table
     → ¬ IsSpoken tables said m)
-    (λ said. IsSpoken tables said m))
+    (λ said. (said.interface ≡ table.name) × IsSpoken tables said m))
 heard_ok tables kind table m id form named (Ok o) formed same is by h =
     heard_by tables kind table m id form named o formed same is by h
 heard_ok tables kind table m id form named (Err e) formed same is by h = tt
 
 -- no interface has words
-pub NoneBefore : List Table → Message → ℕ → Type 0
-NoneBefore tables m i =
-    (place : ℕ) → place < i → (table : Table) → slice_get tables place ≡ Some table
-    → (said : Said) → table_named tables said.interface ≡ Some table → ¬ IsSpoken tables said m
-
 pub none_at_all : (tables : List Table) (m : Message) (i : ℕ) → length tables ≤ i
     → NoneBefore tables m i → (said : Said) → ¬ IsSpoken tables said m
 unfolding NoneBefore
@@ -239,3 +237,52 @@ none_next tables m i table l e before here place below t at =
           subst (λ (x : Table).
           (said : Said) → table_named tables said.interface ≡ Some x → ¬ IsSpoken tables said m) q here
     ]
+
+-- what is found does not stand behind another that passes
+find_place : {X : Type 0} (test : X → Bool) (xs : List X) (x : X) → find test xs ≡ Some x
+    → (i : ℕ) (y : X) → slice_get xs i ≡ Some y → test y ≡ true
+    → (place : ℕ) × ((slice_get xs place ≡ Some x) × (place ≤ i))
+find_place test [] x e i y at passes = let no : ⊥ = cc in absurd no
+find_place {X = X} test (z ∷ zs) x e i y at passes =
+    by (test z) refl (find_place test zs x) e i at
+  where
+    by : (b : Bool) → test z ≡ b
+        → (find test zs ≡ Some x → (i : ℕ) (y : X) → slice_get zs i ≡ Some y → test y ≡ true
+        → (place : ℕ) × ((slice_get zs place ≡ Some x) × (place ≤ i)))
+        → cond b (Some z) (find test zs) ≡ Some x
+        → (i : ℕ) → slice_get (z ∷ zs) i ≡ Some y
+        → (place : ℕ) × ((slice_get (z ∷ zs) place ≡ Some x) × (place ≤ i))
+    by true is rest e i at = (0, (e, omega arith))
+    by false is rest e zero at =
+        let p : z ≡ y = cc in
+        let q : test z ≡ true = ap test p ∙ passes in
+        let no : ⊥ = cc in absurd no
+    by false is rest e (suc i) at =
+        let f = rest e i y at passes in
+        let low = f.1.1 in
+        (suc f.0, (f.1.0, omega arith))
+
+pub first_spoken : (tables : List Table) (said : Said) (m : Message) (i : ℕ) (table : Table)
+    → i < length tables → table ≡ get_or tables i table
+    → said.interface ≡ table.name
+    → IsSpoken tables said m → NoneBefore tables m i → IsFirstSpoken tables said m
+unfolding NoneBefore
+first_spoken tables said m i table l e name h none =
+    by (table_named tables said.interface) refl h.named
+  where
+    by : (o : Option Table) → table_named tables said.interface ≡ o
+        → option_and_then (λ (x : Table). form_named said.kind x said.routine) o ≡ Some h.form
+        → IsFirstSpoken tables said m
+    by None is e = let no : ⊥ = cc in absurd no
+    by (Some t) is o =
+        let at : slice_get tables i ≡ Some table =
+        slice_get-get_or tables i table l ∙ ap (λ (x : Table). Some x) (sym e) in
+        let passes = (bytes_eq-Decides said.interface table.name).1 name in
+        let f = find_place (λ (x : Table). bytes_eq said.interface x.name) tables t is i table at
+        passes in
+        let low = f.1.1 in
+        record {
+          place = f.0;
+          here = f.1.0 ∙ sym is;
+          none_before = λ earlier below. none earlier (omega arith);
+        }

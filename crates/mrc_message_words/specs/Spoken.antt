@@ -76,6 +76,18 @@ pub record IsSpoken (tables : List Table) (said : Said) (m : Message) : Type 0 w
   pub named : form_said tables said ≡ Some form
   pub over : IsSaidOver form said m
 
+-- nothing says the message by the name of an interface before this place
+unfoldable pub NoneBefore : List Table → Message → ℕ → Type 0
+NoneBefore tables m place =
+    (earlier : ℕ) → earlier < place → (table : Table) → slice_get tables earlier ≡ Some table
+    → (said : Said) → table_named tables said.interface ≡ Some table → ¬ IsSpoken tables said m
+
+-- of what says the message, this names the interface that comes first
+pub record IsFirstSpoken (tables : List Table) (said : Said) (m : Message) : Type 0 where
+  pub place : ℕ
+  pub here : slice_get tables place ≡ table_named tables said.interface
+  pub none_before : NoneBefore tables m place
+
 -- a header carries a right to a port by any disposition but that of a receive right
 abbrev pub IsCarried : NamedPort → Type 0
 IsCarried port = port.disp ≢ MoveReceive

@@ -1,13 +1,14 @@
 //! What is said of a message.
 
-ghost use Rattle.std.specs.Prelude.{◌≡◌, ◌<◌, All, IfOk, List, MatchOption, IsTrue, ◌↔◌};
+ghost use Rattle.std.specs.Prelude.{◌≡◌, ◌<◌, All, IfOk, IfSome, List, MatchOption, IsTrue, ◌↔◌};
 ghost use Rattle.std.specs.Prelude.{Some};
 ghost use Rattle.mrc_model.specs.Message.{Message};
 ghost use Rattle.mrc_desc.specs.Lawful.{IsLawfulArg, is_admitted};
 ghost use Rattle.mrc_desc.specs.View.{HasHeader, argument_of, arguments_of};
 ghost use Rattle.mrc_message_words.specs.declared.value.Value.{Value};
 ghost use Rattle.mrc_message_words.specs.Fitting.{IsHeard};
-ghost use Rattle.mrc_message_words.specs.Spoken.{IsSaidOver, IsSpoken, Said, table_named};
+ghost use Rattle.mrc_message_words.specs.Spoken.{IsFirstSpoken, IsSaidOver, IsSpoken, Said};
+ghost use Rattle.mrc_message_words.specs.Spoken.{table_named};
 ghost use Rattle.mrc_message_words.specs.Values.{AreValues};
 
 use crate::arguments::value_of;
@@ -108,7 +109,8 @@ fn said_by(
         ((said : Said) → said.kind ≡ kind
         → table_named interfaces.now said.interface ≡ Some interface.now
         → ¬ IsSpoken interfaces.now said message.now)
-        (λ said. IsSpoken interfaces.now said message.now)) }
+        (λ said. (said.interface ≡ interface.now.name)
+        × IsSpoken interfaces.now said message.now)) }
 {
     let (_first, _count) = interface.ids();
     let id = message.header().id;
@@ -134,7 +136,8 @@ fn said_in(
     ensures { IfOk result (λ said. MatchOption said
         ((said : Said) → table_named interfaces.now said.interface ≡ Some interface.now
         → ¬ IsSpoken interfaces.now said message.now)
-        (λ said. IsSpoken interfaces.now said message.now)) }
+        (λ said. (said.interface ≡ interface.now.name)
+        × IsSpoken interfaces.now said message.now)) }
 {
     let request = said_by(alloc, interfaces, MessageKind::Request, interface, message)?;
     match request {
@@ -151,9 +154,11 @@ pub fn spoken_of(
     interfaces: &[Interface],
     message: &Message,
 ) -> Result<Option<Spoken>, AllocError>
-    ensures { IfOk result (λ said. MatchOption said
+    ensures words { IfOk result (λ said. MatchOption said
         ((said : Said) → ¬ IsSpoken interfaces.now said message.now)
         (λ said. IsSpoken interfaces.now said message.now)) }
+    ensures first { IfOk result (λ said. IfSome said
+        (λ said. IsFirstSpoken interfaces.now said message.now)) }
 {
     for interface in interfaces {
         if let Some(said) = said_in(alloc, interfaces, interface, message)? {

@@ -113,10 +113,7 @@ fn word_len(bytes: &[u8]) -> usize
     ensures { result ≤ length bytes.now }
 {
     for (i, byte) in bytes.iter().enumerate() {
-        if matches!(
-            *byte,
-            b' ' | b'\t' | b'{' | b'}' | b'[' | b']' | b'"'
-        ) {
+        if matches!(*byte, b' ' | b'\t' | b'{' | b'}' | b'[' | b']' | b'"') {
             return i;
         }
     }
@@ -178,7 +175,11 @@ fn number_in(base: u64, digits: &[u8]) -> Option<u64> {
         }
         number = number.checked_mul(base)?.checked_add(value)?;
     }
-    if digits.is_empty() { None } else { Some(number) }
+    if digits.is_empty() {
+        None
+    } else {
+        Some(number)
+    }
 }
 
 /// The number that a word is, in decimal or behind `0x`.

@@ -7,7 +7,7 @@ use crate::spoken::Spoken;
 use crate::terms::{PortWord, disp_word};
 use crate::value::Value;
 use mrc_base::Disp;
-use mrc_forms::{Argument, Form, FormKind, Items, ItemTypes, MessageKind};
+use mrc_forms::{Argument, Form, FormKind, ItemTypes, Items, MessageKind};
 use std::alloc::{AllocError, Global};
 
 /// The type number of a C string.
@@ -15,6 +15,7 @@ const C_STRING: u16 = 12;
 
 /// The type number and the bits of data that are printed as bytes alone.
 const BYTE: u16 = 9;
+
 const BYTE_SIZE: u16 = 8;
 
 /// Puts a number behind a text.

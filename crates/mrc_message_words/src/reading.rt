@@ -8,7 +8,7 @@ use crate::terms::{disp_of, port_name};
 use crate::value::{Numbers, Value};
 use mrc_base::{Disp, OrMemory};
 use mrc_desc::{Bytes, Names};
-use mrc_forms::{Items, ItemTypes};
+use mrc_forms::{ItemTypes, Items};
 use std::alloc::{AllocError, Global};
 
 /// A value, and what comes behind it.
@@ -19,6 +19,7 @@ const C_STRING: u16 = 12;
 
 /// The type number and the bits of data that are only said as bytes.
 const BYTE: u16 = 9;
+
 const BYTE_SIZE: u16 = 8;
 
 /// A fault of this kind.
@@ -171,12 +172,7 @@ fn text_items(
 }
 
 /// Items of data of at most 64 bits, of the type of this number.
-fn numbers_value<'t>(
-    alloc: Global,
-    items: Items,
-    name: u16,
-    first: Token<'t>,
-) -> Read<'t> {
+fn numbers_value<'t>(alloc: Global, items: Items, name: u16, first: Token<'t>) -> Read<'t> {
     let (numbers, after) = if is_single(items) {
         let mut numbers = Vec::new(alloc);
         let number = number_at(items.size, first)?;
@@ -295,13 +291,7 @@ fn bytes_of(alloc: Global, word: &[u8]) -> Result<Option<Vec<u8>>, AllocError> {
 }
 
 /// Data as bytes, of the type of this number and of so many bits an item.
-fn raw_value<'t>(
-    alloc: Global,
-    items: Items,
-    name: u16,
-    size: u16,
-    token: Token<'t>,
-) -> Read<'t> {
+fn raw_value<'t>(alloc: Global, items: Items, name: u16, size: u16, token: Token<'t>) -> Read<'t> {
     if token.mark != Mark::Word {
         return no_value(token);
     }

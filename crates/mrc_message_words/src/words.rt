@@ -82,7 +82,11 @@ fn said_at<'t>(token: Token<'t>) -> Result<ArgumentWord<'t>, OrMemory<WordsFault
         mark: Mark::Word,
         bytes: value,
         place: Place {
-            first: token.place.first.saturating_add(name.len()).saturating_add(1),
+            first: token
+                .place
+                .first
+                .saturating_add(name.len())
+                .saturating_add(1),
             len: value.len(),
         },
         is_glued: true,
@@ -162,11 +166,7 @@ fn no_values(alloc: Global, form: &Form) -> Result<Values, AllocError> {
 
 /// The values in the form's order, or the number of the first argument that is not said. Where a
 /// reply's return code is not said, it is 0.
-fn in_order(
-    alloc: Global,
-    form: &Form,
-    values: Values,
-) -> Result<Vec<Value>, OrMemory<usize>> {
+fn in_order(alloc: Global, form: &Form, values: Values) -> Result<Vec<Value>, OrMemory<usize>> {
     let Values { said } = values;
     let mut ordered = Vec::new(alloc);
     let mut i = 0usize;
@@ -174,8 +174,7 @@ fn in_order(
         match (value, form.arguments().get(i)) {
             (Some(value), _) => ordered.push(value)?,
             (None, Some(argument))
-                if form.kind() == FormKind::Reply && argument.name.as_str() == RETURN_CODE =>
-            {
+                if form.kind() == FormKind::Reply && argument.name.as_str() == RETURN_CODE => {
                 let value = no_code(alloc, argument)?;
                 ordered.push(value)?;
             }

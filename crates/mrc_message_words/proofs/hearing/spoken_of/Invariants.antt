@@ -1,4 +1,4 @@
-use Rattle.mrc_message_words.proofs.Finding.{NoneBefore}
+use Rattle.mrc_message_words.specs.Spoken.{NoneBefore}
 use Rattle.mrc_message_words.proofs.hearing.spoken_of.Given as goal
 
 abbrev pub invariant-loop-interface : goal.invariant-loop-interface
