@@ -12,7 +12,7 @@ ROWS = []
 
 
 def row(name, words, files, **told):
-    ROWS.append({"name": name, "args": [*words, *files], "files": files, **told})
+    ROWS.append({"name": name, "args": [*words, *files], "files": files, "stderr": "", **told})
 
 
 def encoded(name, words, digits, files):
