@@ -25,6 +25,8 @@ OPTIONS = {command: options.split(" ") for command, options in {
     "replay": "wiring script format verbose",
     "live": "wiring policy cert script format verbose",
     "mig": "out strict strict-rights as-received format verbose",
+    "encode": "message verbose",
+    "decode": "hex verbose",
 }.items()}
 HELP = "\n\nFor more information, try '--help'.\n"
 
