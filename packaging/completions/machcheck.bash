@@ -15,8 +15,8 @@ _machcheck() {
     done
     COMPREPLY=()
     case $command in
-    '') kind=words options='verify mend attack check make explain facts graph slots promises replay live mig help --help --version' ;;
-    help) kind=words options='verify mend attack check make explain facts graph slots promises replay live mig ' ;;
+    '') kind=words options='verify mend attack check make explain facts graph slots promises expand replay live mig encode decode help --help --version' ;;
+    help) kind=words options='verify mend attack check make explain facts graph slots promises expand replay live mig encode decode ' ;;
     verify)
         options='--wiring --policy --tree --brief --line --format --verbose --help'
         case $before in
@@ -107,6 +107,12 @@ _machcheck() {
         --format) kind=words options='text json' ;;
         esac
         ;;
+    expand)
+        options='--wiring --verbose --help'
+        case $before in
+        --wiring) kind=file ;;
+        esac
+        ;;
     replay)
         options='--wiring --script --format --verbose --help'
         case $before in
@@ -133,6 +139,18 @@ _machcheck() {
         -I) kind=folder ;;
         -D) kind=nothing ;;
         -U) kind=nothing ;;
+        esac
+        ;;
+    encode)
+        options='--message --verbose --help'
+        case $before in
+        --message) kind=nothing ;;
+        esac
+        ;;
+    decode)
+        options='--hex --verbose --help'
+        case $before in
+        --hex) kind=nothing ;;
         esac
         ;;
     *) return ;;

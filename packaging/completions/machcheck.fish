@@ -97,6 +97,12 @@ complete -c machcheck -n '__fish_seen_subcommand_from promises' -l format -x -a 
 complete -c machcheck -n '__fish_seen_subcommand_from promises' -l verbose -d 'Shows where a fault is, and what may help to mend it'
 complete -c machcheck -n '__fish_seen_subcommand_from promises' -s h -l help -d 'Print help'
 complete -c machcheck -n '__fish_seen_subcommand_from promises' -k -a '(__fish_complete_suffix .defs)'
+complete -c machcheck -n __fish_use_subcommand -a expand -d 'Prints the lines that a wiring of version 4 stands for'
+complete -c machcheck -n '__fish_seen_subcommand_from help' -a expand
+complete -c machcheck -n '__fish_seen_subcommand_from expand' -l wiring -r -F -d 'Tasks, ports and their first rights'
+complete -c machcheck -n '__fish_seen_subcommand_from expand' -l verbose -d 'Shows where a fault is, and what may help to mend it'
+complete -c machcheck -n '__fish_seen_subcommand_from expand' -s h -l help -d 'Print help'
+complete -c machcheck -n '__fish_seen_subcommand_from expand' -k -a '(__fish_complete_suffix .defs)'
 complete -c machcheck -n __fish_use_subcommand -a replay -d 'Runs a script of calls, and prints the reply to each'
 complete -c machcheck -n '__fish_seen_subcommand_from help' -a replay
 complete -c machcheck -n '__fish_seen_subcommand_from replay' -l wiring -r -F -d 'Tasks, ports and their first rights'
@@ -128,3 +134,15 @@ complete -c machcheck -n '__fish_seen_subcommand_from mig' -s D -x -d 'A macro t
 complete -c machcheck -n '__fish_seen_subcommand_from mig' -s U -x -d 'A macro that is not defined'
 complete -c machcheck -n '__fish_seen_subcommand_from mig' -s h -l help -d 'Print help'
 complete -c machcheck -n '__fish_seen_subcommand_from mig' -k -a '(__fish_complete_suffix .defs)'
+complete -c machcheck -n __fish_use_subcommand -a encode -d 'Prints the bytes of a message that is said in words'
+complete -c machcheck -n '__fish_seen_subcommand_from help' -a encode
+complete -c machcheck -n '__fish_seen_subcommand_from encode' -l message -x -d 'The message in words, between braces'
+complete -c machcheck -n '__fish_seen_subcommand_from encode' -l verbose -d 'Shows where a fault is, and what may help to mend it'
+complete -c machcheck -n '__fish_seen_subcommand_from encode' -s h -l help -d 'Print help'
+complete -c machcheck -n '__fish_seen_subcommand_from encode' -k -a '(__fish_complete_suffix .defs)'
+complete -c machcheck -n __fish_use_subcommand -a decode -d 'Prints the words of a message by its bytes'
+complete -c machcheck -n '__fish_seen_subcommand_from help' -a decode
+complete -c machcheck -n '__fish_seen_subcommand_from decode' -l hex -x -d 'The bytes of the message, two digits a byte'
+complete -c machcheck -n '__fish_seen_subcommand_from decode' -l verbose -d 'Shows where a fault is, and what may help to mend it'
+complete -c machcheck -n '__fish_seen_subcommand_from decode' -s h -l help -d 'Print help'
+complete -c machcheck -n '__fish_seen_subcommand_from decode' -k -a '(__fish_complete_suffix .defs)'

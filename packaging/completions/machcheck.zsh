@@ -15,9 +15,12 @@ _machcheck() {
         'graph:Draws the facts of a certificate, or of the least one of a wiring'
         'slots:Lists the slots of the messages, and which ports each admits'
         'promises:Prints what to enforce at ports, and to find in the code of trusted tasks'
+        'expand:Prints the lines that a wiring of version 4 stands for'
         'replay:Runs a script of calls, and prints the reply to each'
         'live:Checks, and runs a script of calls by tasks as threads'
         'mig:Writes MIG files of a system as files that can be read'
+        'encode:Prints the bytes of a message that is said in words'
+        'decode:Prints the words of a message by its bytes'
         'help:Print help of a command'
     )
     _arguments -C '(- *)'{-h,--help}'[Print help]' '(- *)'{-V,--version}'[Print version]' \
@@ -131,6 +134,13 @@ _machcheck() {
                 '(- *)'{-h,--help}'[Print help]' \
                 '*:MIG file:_files -g "*.defs"'
             ;;
+        expand)
+            _arguments -s \
+                '--wiring=[Tasks, ports and their first rights]:FILE:_files' \
+                '--verbose[Shows where a fault is, and what may help to mend it]' \
+                '(- *)'{-h,--help}'[Print help]' \
+                '*:MIG file:_files -g "*.defs"'
+            ;;
         replay)
             _arguments -s \
                 '--wiring=[Tasks, ports and their first rights]:FILE:_files' \
@@ -162,6 +172,20 @@ _machcheck() {
                 '-I+[A folder in which files that are included are sought]:FOLDER:_files -/' \
                 '-D+[A macro that is defined, as NAME or NAME=TEXT]:MACRO:' \
                 '-U+[A macro that is not defined]:NAME:' \
+                '(- *)'{-h,--help}'[Print help]' \
+                '*:MIG file:_files -g "*.defs"'
+            ;;
+        encode)
+            _arguments -s \
+                '--message=[The message in words, between braces]:WORDS:' \
+                '--verbose[Shows where a fault is, and what may help to mend it]' \
+                '(- *)'{-h,--help}'[Print help]' \
+                '*:MIG file:_files -g "*.defs"'
+            ;;
+        decode)
+            _arguments -s \
+                '--hex=[The bytes of the message, two digits a byte]:HEX:' \
+                '--verbose[Shows where a fault is, and what may help to mend it]' \
                 '(- *)'{-h,--help}'[Print help]' \
                 '*:MIG file:_files -g "*.defs"'
             ;;
