@@ -150,7 +150,8 @@ def fault(name, told, words, marks, files=SOME):
     """A fault of words, and below them the marks of the place."""
     column = marks.index("^") + 1
     hints = f"--message:1:{column}\n  {words}\n  {marks}\n  {NOTES[told.split()[0]]}\n"
-    row(f"fault: {name}", ["encode", "--message", words], files, status=2, stderr=f"machcheck: --message: {told}\n", hints=hints)
+    row(f"fault: {name}", ["encode", "--message", words], files, status=2, stderr=f"machcheck: --message: {told}\n",
+        hints=hints)
 
 
 fault("no words", "NotWords", "", "^")
@@ -220,6 +221,8 @@ hex_fault("no data", "Truncated 24", "13000000 1c000000 03000000 00000000 000000
 NONE = "  no MIG file has a message of this id and of such arguments\n"
 hex_fault("another id", "NoWords", "13000000 18000000 03000000 00000000 00000000 d2070000", NONE)
 hex_fault("another argument", "NoWords", "13000000 20000000 03000000 00000000 00000000 d1070000 02200110 01000000", NONE)
+hex_fault("a reply port of a reply in bytes", "NoWords",
+          "12150000 28000000 03000000 04000000 00000000 34080000 02200110 00000000 02200110 05000000", NONE)
 hex_fault("a code alone", "NoWords", "12000000 20000000 03000000 00000000 00000000 34080000 02200110 05000000", NONE)
 for command in (["encode", "--message", "x"], ["decode", "--hex", "x"]):
     row(f"{command[0]}: the fault of a file first", command, {"d": "subsystem s 1;\n@"}, status=2,
