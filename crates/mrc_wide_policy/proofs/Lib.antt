@@ -1,1 +1,4 @@
 mod QuoteLemmas
+mod LineLemmas
+mod TextLemmas
+mod OtherLemmas

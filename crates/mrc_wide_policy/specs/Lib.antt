@@ -1,3 +1,6 @@
 pub mod Quotes
 pub mod QuoteLaws
+pub mod PolicyLines
+pub mod PolicyReading
+pub mod PolicyTexts
 pub mod Worked

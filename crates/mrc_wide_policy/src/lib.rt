@@ -2,6 +2,11 @@
 #![tactic(auto)]
 
 pub mod laws;
+mod lines;
 mod quotes;
+mod reading;
+mod says;
 
 pub use quotes::{Quoted, STRING};
+pub use reading::read_wide_policy;
+pub use says::{PolicySays, Product, WidePolicyLine};
