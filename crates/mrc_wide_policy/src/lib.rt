@@ -2,11 +2,16 @@
 #![tactic(auto)]
 
 pub mod laws;
+mod facts;
 mod lines;
 mod quotes;
 mod reading;
+mod rows;
 mod says;
+mod standing;
 
+pub use facts::{FactLine, NamedFact, PolicyStands, WaivedLine};
 pub use quotes::{Quoted, STRING};
 pub use reading::read_wide_policy;
 pub use says::{PolicySays, Product, WidePolicyLine};
+pub use standing::FACTS;

@@ -94,6 +94,15 @@ impl Quoted {
         }))
     }
 
+    /// An equal string.
+    pub fn copy(&self, alloc: Global) -> Result<Quoted, AllocError>
+        ensures { IfOk result (λ copy. copy ≡ self.now) }
+    {
+        Ok(Quoted {
+            text: Vec::from_slice(alloc, self.text.as_slice())?,
+        })
+    }
+
     /// The text, as UTF-8.
     pub fn as_bytes(&self) -> &[u8]
         ensures kept { IsTrue (is_string self.now) }
