@@ -3,6 +3,7 @@
 use Rattle.std.specs.Prelude.{ℕ, ◌+◌, Bool, true, false, nat_lt, bytes_eq, List, [], ◌∷◌, ◌++◌}
 use Rattle.std.specs.Prelude.{length, filter, find, Option, Some, None, Result, Ok, Err}
 use Rattle.std.specs.Prelude.{if◌then◌else◌}
+use Rattle.std.specs.List.{list_any}
 use Rattle.mrc_base.specs.Reading.{◌>>=◌}
 use Rattle.mrc_base.specs.declared.PortRight.{PortRight}
 use Rattle.mrc_wiring_text.specs.declared.policy.ClassName.{ClassName}
@@ -120,10 +121,11 @@ is_this name None = false
 abbrev pub has_name : List ℕ → FactLine → Bool
 has_name name line = is_this name line.name
 
--- lines of the name, if there is one
-abbrev pub known_name : ℕ → List FactLine → Result (List FactLine) StandFault
-known_name n [] = Err (UnknownName n)
-known_name n (line ∷ lines) = Ok (line ∷ lines)
+-- the facts that lines of the name forbid, if there is one
+abbrev pub named_facts : ℕ → List ℕ → List FactLine → Result (List NamedFact) StandFault
+named_facts n name lines =
+    if list_any (has_name name) lines then Ok (facts_of (filter (has_name name) lines))
+    else Err (UnknownName n)
 
 -- those of facts that are in the product, if the line has one
 abbrev pub waived_of : Demands → ℕ → Option Product → List NamedFact
@@ -180,8 +182,8 @@ add_expect so_far n name product = do
 -- `waive "NAME" "WORDS"` and `waive "NAME" TASKS RIGHTS CLASSES "WORDS"`
 abbrev pub add_waive : Demands → ℕ → List ℕ → Option Product → List ℕ → Result Demands StandFault
 add_waive so_far n name product because = do
-  lines ← known_name n (filter (has_name name) so_far.forbidden)
-  those ← waived_of so_far n product (facts_of lines)
+  named ← named_facts n name so_far.forbidden
+  those ← waived_of so_far n product named
   some ← filled n those
   count ← counted n so_far.count (new_facts so_far.waived some)
   Ok (record so_far {

@@ -1,8 +1,8 @@
 //! Policies of version 3: lines that name lists, and strings that name lines and give reasons.
 #![tactic(auto)]
 
-pub mod laws;
 mod facts;
+pub mod laws;
 mod lines;
 mod quotes;
 mod reading;
@@ -14,4 +14,4 @@ pub use facts::{FactLine, NamedFact, PolicyStands, WaivedLine};
 pub use quotes::{Quoted, STRING};
 pub use reading::read_wide_policy;
 pub use says::{PolicySays, Product, WidePolicyLine};
-pub use standing::FACTS;
+pub use standing::{FACTS, stand_policy};
