@@ -6,3 +6,4 @@ pub mod PolicyTexts
 pub mod Facts
 pub mod PolicyStanding
 pub mod Worked
+pub mod WorkedPolicies

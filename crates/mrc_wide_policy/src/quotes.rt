@@ -99,7 +99,7 @@ impl Quoted {
         ensures { IfOk result (λ copy. copy ≡ self.now) }
     {
         Ok(Quoted {
-            text: Vec::from_slice(alloc, self.text.as_slice())?,
+            text: Vec::from_slice(alloc, self.as_bytes())?,
         })
     }
 
