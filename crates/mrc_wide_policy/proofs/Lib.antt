@@ -2,3 +2,4 @@ mod QuoteLemmas
 mod LineLemmas
 mod TextLemmas
 mod OtherLemmas
+mod FactLemmas

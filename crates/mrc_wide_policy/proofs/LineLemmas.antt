@@ -7,7 +7,8 @@ use Rattle.std.proofs.lemmas.List.{nil_from_length, append-nil}
 use Rattle.mrc_base.specs.Limits.{limit_of_lines}
 use Rattle.mrc_base.specs.declared.memory.OrMemory.{OrMemory}
 use Rattle.mrc_base.specs.Reading.{◌>>=◌, Refuses}
-use Rattle.mrc_base.proofs.Steps.{bind_ok, not_stopped, ok_is, err_is_ok, refuses_then, refuses_same}
+use Rattle.mrc_base.proofs.Steps.{bind_ok, not_stopped, ok_is, err_is_ok, refuses_then}
+use Rattle.mrc_base.proofs.Steps.{refuses_same}
 use Rattle.mrc_wiring_text.specs.declared.faults.TextFault.{TextFault}
 use Rattle.mrc_wiring_text.specs.declared.faults.TextFault.TheVariants.{BadLine}
 use Rattle.mrc_wiring_text.specs.declared.reading.Line.{Line}

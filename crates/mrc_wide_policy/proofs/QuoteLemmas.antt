@@ -6,7 +6,8 @@ use Rattle.std.specs.List.{list_any, slice_split}
 use Rattle.std.proofs.Math.Seq.{drop-cons}
 use Rattle.std.proofs.lemmas.Bool.{or_parts}
 use Rattle.std.proofs.lemmas.List.{drop_all, drop-drop, drop-map, length-map, append-nil}
-use Rattle.mrc_wide_policy.specs.Quotes.{is_quote, by_turns, quoted_words, ends_control, has_control}
+use Rattle.mrc_wide_policy.specs.Quotes.{is_quote, by_turns, quoted_words, ends_control}
+use Rattle.mrc_wide_policy.specs.Quotes.{has_control}
 use Rattle.mrc_wide_policy.specs.QuoteLaws.{PlainLinesHaveTheirWords}
 
 -- the bytes from a place on

@@ -33,7 +33,7 @@ use Rattle.mrc_wide_policy.proofs.LineLemmas.{said_found, said_read}
 
 -- a line that is taken for a heading
 record Headed (n : ℕ) (ws : List (List ℕ)) (r : SoFar) : Type 0 where
-  within : n ≤ limit_of_lines
+  in_reach : n ≤ limit_of_lines
   version : version_of ws ≡ Some wide_version
   none_yet : r ≡ Some []
 
@@ -50,7 +50,7 @@ unfolding heading_of
 heading_is n ws r e =
     let g = not_stopped (ltb limit_of_lines n) too_far (headed n (version_of ws)) r e in
     let found = version_is n (version_of ws) r g.1 in
-    record { within = ltb-false _ _ g.0; version = found.0; none_yet = found.1 }
+    record { in_reach = ltb-false _ _ g.0; version = found.0; none_yet = found.1 }
 
 heading_read : (n : ℕ) (ws : List (List ℕ))
     → n ≤ limit_of_lines
@@ -67,10 +67,10 @@ record Found (n : ℕ) (ls : List (List ℕ)) (says : List (Line PolicySays)) : 
   head : List ℕ
   after : List (List ℕ)
   parts : ls ≡ before ++ head ∷ after
-  wordless : AllByRecursion IsWordless before
+  blank : AllByRecursion IsWordless before
   heading : version_of (words head) ≡ Some wide_version
   body : Say (n + length before + 1) after says
-  few : n + length ls ≤ limit_of_lines + 1
+  short : n + length ls ≤ limit_of_lines + 1
 
 found_here : (n : ℕ) (line : List ℕ) (rest : List (List ℕ)) (says : List (Line PolicySays))
     → (heading_of n (words line) >>= λ more. add_lines (n + 1) more rest) ≡ Ok (Some says)
@@ -79,7 +79,7 @@ found_here n line rest says e =
     let step = bind_ok (heading_of n (words line)) (λ more. add_lines (n + 1) more rest) (Some says)
     e in
     let here = heading_is n (words line) step.0 step.1 in
-    let said = said_found (n + 1) [] rest (Some says) (omega (arith, here.within))
+    let said = said_found (n + 1) [] rest (Some says) (omega (arith, here.in_reach))
     (ap (λ (r : SoFar). add_lines (n + 1) r rest) (sym here.none_yet) ∙ step.2) in
     let same : says ≡ said.others = cc said.is in
     record {
@@ -87,11 +87,11 @@ found_here n line rest says e =
       head = line;
       after = rest;
       parts = refl;
-      wordless = tt;
+      blank = tt;
       heading = here.version;
       body = subst (λ (k : ℕ). Say k rest says) (omega arith)
           (subst (Say (n + 1) rest) (sym same) said.say);
-      few = omega (arith, said.few);
+      short = omega (arith, said.few);
     }
 
 found_later : (n : ℕ) (line : List ℕ) (rest : List (List ℕ)) (says : List (Line PolicySays))
@@ -104,10 +104,10 @@ found_later n line rest says none found =
       head = found.head;
       after = found.after;
       parts = ap (λ xs. line ∷ xs) found.parts;
-      wordless = (none, found.wordless);
+      blank = (none, found.blank);
       heading = found.heading;
       body = subst (λ (k : ℕ). Say k found.after says) (omega arith) found.body;
-      few = omega (arith, found.few);
+      short = omega (arith, found.short);
     }
 
 lines_found : (n : ℕ) (ls : List (List ℕ)) (says : List (Line PolicySays))
@@ -178,12 +178,12 @@ text_found bytes says e =
     let same : lines bytes ≡ lines a.0 = ap lines text.1 in
     record {
       utf8 = text.0;
-      few = omega (arith, found.few, ap length same);
+      few = omega (arith, found.short, ap length same);
       before = found.before;
       head = found.head;
       after = found.after;
       parts = same ∙ found.parts;
-      wordless = found.wordless;
+      wordless = found.blank;
       heading = found.heading;
       body = subst (λ (k : ℕ). Say k found.after says) (omega arith) found.body;
     }

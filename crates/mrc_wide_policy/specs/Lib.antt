@@ -5,5 +5,6 @@ pub mod PolicyReading
 pub mod PolicyTexts
 pub mod Facts
 pub mod PolicyStanding
+pub mod FactLaws
 pub mod Worked
 pub mod WorkedPolicies

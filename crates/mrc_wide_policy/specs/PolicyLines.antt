@@ -103,7 +103,8 @@ forbid_says words =
 -- the words after `expect` in `expect TASKS RIGHTS CLASSES` and the same behind "NAME"
 abbrev pub expect_says : List (List ℕ) → Option PolicySays
 expect_says words =
-    option_map (Expect (name_in_front words)) (expected_of (behind_name (name_in_front words) words))
+    option_map (Expect (name_in_front words))
+    (expected_of (behind_name (name_in_front words) words))
 
 -- a waiver, if its name, its product if it has one, and its reason are there
 abbrev pub waive_named : Option (List ℕ) → Option (Option Product) → Option (List ℕ)

@@ -1,5 +1,5 @@
--- Believe. The first fault of a policy of version 3; for the value a step. It begins with a line that
--- names the version, as older policies do. This profile's own choice.
+-- Believe. The first fault of a policy of version 3; for the value a step. It begins with a line
+-- that names the version, as older policies do. This profile's own choice.
 use Rattle.std.specs.Prelude.{ℕ, ◌+◌, ◌==◌, ◌&&◌, nat_lt, bytes_eq, codes, List, [], ◌∷◌, ◌++◌}
 use Rattle.std.specs.Prelude.{length, Option, Some, None, Result, Ok, Err, if◌then◌else◌}
 use Rattle.mrc_base.specs.Limits.{limit_of_lines}

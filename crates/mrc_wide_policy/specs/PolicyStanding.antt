@@ -1,5 +1,5 @@
--- Believe. What the lines of a policy of version 3 stand for over a wiring after whose lines this is
--- known, one line after the other, up to the first that is refused. This profile's own choice.
+-- Believe. What the lines of a policy of version 3 stand for over a wiring after whose lines this
+-- is known, one line after the other, up to the first that is refused. This profile's own choice.
 use Rattle.std.specs.Prelude.{ℕ, ◌+◌, Bool, true, false, nat_lt, bytes_eq, List, [], ◌∷◌, ◌++◌}
 use Rattle.std.specs.Prelude.{length, filter, find, Option, Some, None, Result, Ok, Err}
 use Rattle.std.specs.Prelude.{if◌then◌else◌}
@@ -49,7 +49,8 @@ is_named name set = bytes_eq name set.name
 -- what a CLASS stands for that is no set of the policy
 abbrev pub class_alone : Known → ℕ → Option (List ℕ) → WideClass
     → Result (List ClassName) StandFault
-class_alone known n holder class = classes_of known n holder (class ∷ []) >>= λ found. Ok found.classes
+class_alone known n holder class =
+    classes_of known n holder (class ∷ []) >>= λ found. Ok found.classes
 
 -- the classes of a set of the policy, or what its name stands for otherwise
 abbrev pub bare_or : Option BareSet → Result (List ClassName) StandFault

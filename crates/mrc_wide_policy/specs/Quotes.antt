@@ -34,8 +34,8 @@ quoted_words line = by_turns (slice_split is_quote line)
 abbrev pub limit_of_string : ℕ
 limit_of_string = 128
 
--- a control character ends with this byte behind that one: U+0000 to U+001F and U+007F are one byte,
--- U+0080 to U+009F are 194 and a byte below 160
+-- a control character ends with this byte behind that one: U+0000 to U+001F and U+007F are one
+-- byte, U+0080 to U+009F are 194 and a byte below 160
 abbrev pub ends_control : ℕ → ℕ → Bool
 ends_control before b = nat_lt b 32 || (b == 127 || (before == 194 && nat_lt b 160))
 

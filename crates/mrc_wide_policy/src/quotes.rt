@@ -5,7 +5,8 @@ ghost use Rattle.std.specs.Prelude.{IfOk, OnOk, IsTrue};
 ghost use Rattle.std.specs.List.{list_any, slice_split};
 ghost use Rattle.mrc_wiring_text.specs.Lexis.{is_hash, words};
 ghost use Rattle.mrc_wide_policy.specs.Quotes.{is_quote, string_word, by_turns, quoted_words};
-ghost use Rattle.mrc_wide_policy.specs.Quotes.{ends_control, has_control, is_string, inside, is_in_quotes, quoted_of};
+ghost use Rattle.mrc_wide_policy.specs.Quotes.{ends_control, has_control, is_string, inside};
+ghost use Rattle.mrc_wide_policy.specs.Quotes.{is_in_quotes, quoted_of};
 
 use mrc_wiring_text::{between_blanks, spaced};
 use std::alloc::{AllocError, Global};

@@ -41,8 +41,8 @@ pub enum PolicySays {
         /// What is forbidden.
         product: Product,
     },
-    /// `expect TASKS RIGHTS CLASSES`, `expect "NAME" TASKS RIGHTS CLASSES`: each of the tasks has to
-    /// be able to hold each of the rights.
+    /// `expect TASKS RIGHTS CLASSES`, `expect "NAME" TASKS RIGHTS CLASSES`: each of the tasks has
+    /// to be able to hold each of the rights.
     Expect {
         /// NAME.
         name: Option<Quoted>,

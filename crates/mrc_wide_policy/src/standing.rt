@@ -3,9 +3,9 @@
 ghost use Rattle.std.specs.Prelude.{◌≡◌, ◌+◌, ◌++◌, ◌∷◌, filter, length, IfOk};
 ghost use Rattle.std.specs.List.{list_any};
 ghost use Rattle.mrc_base.specs.Reading.{Gives};
-ghost use Rattle.mrc_stand_for.specs.Steps.{Leaves, filled};
+ghost use Rattle.mrc_stand_for.specs.Steps.{Leaves};
 ghost use Rattle.mrc_wide_policy.specs.Facts.{facts_of};
-ghost use Rattle.mrc_wide_policy.specs.PolicyStanding.{product_facts, is_this, has_name, named_facts};
+ghost use Rattle.mrc_wide_policy.specs.PolicyStanding.{product_facts, has_name, named_facts};
 ghost use Rattle.mrc_wide_policy.specs.PolicyStanding.{waived_of, counted, add_group, add_set};
 ghost use Rattle.mrc_wide_policy.specs.PolicyStanding.{add_forbid, add_expect, add_waive};
 ghost use Rattle.mrc_wide_policy.specs.PolicyStanding.{says_more, add_line, nothing_demanded};
@@ -126,16 +126,6 @@ fn named_facts(
         return Err(OrMemory::Fault(StandFault::UnknownName(line)));
     }
     Ok(facts_named(alloc, name, lines)?)
-}
-
-/// Facts of a line, which has to name some.
-fn filled(line: u32, facts: Several<NamedFact>) -> Result<Several<NamedFact>, OrMemory<StandFault>>
-    ensures { Gives (λ facts. facts) result (filled line facts) }
-{
-    if facts.as_slice().is_empty() {
-        return Err(OrMemory::Fault(StandFault::Empty(line)));
-    }
-    Ok(facts)
 }
 
 impl Demands {
@@ -273,8 +263,10 @@ impl Demands {
     {
         let named = named_facts(alloc, line, name, self.forbidden.as_slice())?;
         let those = self.waived_of(alloc, line, product, named)?;
-        let some = filled(line, those)?;
-        let facts = new_facts(alloc, self.waived.as_slice(), some.into_vec())?;
+        if those.as_slice().is_empty() {
+            return Err(OrMemory::Fault(StandFault::Empty(line)));
+        }
+        let facts = new_facts(alloc, self.waived.as_slice(), those.into_vec())?;
         let count = counted(line, self.count, facts.as_slice())?;
         let because = because.copy(alloc)?;
         self.count = count;

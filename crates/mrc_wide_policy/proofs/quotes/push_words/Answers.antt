@@ -11,4 +11,5 @@ returns c =
     let found = ap (map (λ (word : Bor (List ℕ)). word.now)) (all ∙ view.ensures.value)
     ∙ c.in_ok-found.ensures.exact
     ∙ said_words c.args.text.now _ _ c.deref.ensures.value c.in_ok-text.ensures in
-    c.loop-word.invariant ∙ ap (λ more. map (λ word. word.items) c.args.said.now.items ++ more) found
+    c.loop-word.invariant
+    ∙ ap (λ more. map (λ word. word.items) c.args.said.now.items ++ more) found
