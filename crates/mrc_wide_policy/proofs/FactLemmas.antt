@@ -1,20 +1,17 @@
 -- The facts of products, and what waivers keep.
-use Rattle.std.proofs.Common.{◌≡◌, ℕ, ◌+◌, Bool, true, false, cond, ◌&&◌, ◌||◌, List, [], ◌∷◌, ◌++◌}
-use Rattle.std.proofs.Common.{map, length, Option, Some, None, Result, Ok, Err, refl, sym, ap, ◌∙◌}
+use Rattle.std.proofs.Common.{◌≡◌, ℕ, Bool, true, false, cond, ◌&&◌, ◌||◌, List, [], ◌∷◌, ◌++◌}
+use Rattle.std.proofs.Common.{map, length, Option, Some, None, Ok, refl, sym, ap, ◌∙◌}
 use Rattle.std.proofs.Common.{subst, inl, inr, ◌⊎◌}
 use Rattle.std.specs.Prelude.{bytes_eq, filter, fold, nat_eq}
-use Rattle.std.specs.List.{list_any, flat_map}
+use Rattle.std.specs.List.{list_any}
 use Rattle.std.proofs.lemmas.Bool.{cases_Bool}
 use Rattle.std.proofs.lemmas.Grind.{flat_map-append}
 use Rattle.std.proofs.lemmas.List.Folds.{list_any-append}
 use Rattle.mrc_base.specs.declared.PortRight.{PortRight}
-use Rattle.mrc_base.specs.Reading.{◌>>=◌}
 use Rattle.mrc_base.proofs.Steps.{bind_ok, passed, ok_is}
 use Rattle.mrc_wiring_text.specs.declared.policy.ClassName.{ClassName}
 use Rattle.mrc_wiring_text.specs.declared.reading.Line.{Line}
-use Rattle.mrc_stand_for.specs.declared.faults.StandFault.{StandFault}
 use Rattle.mrc_stand_for.specs.declared.faults.StandFault.TheVariants.{UnknownName, Empty}
-use Rattle.mrc_stand_for.specs.declared.known.Known.{Known}
 use Rattle.mrc_stand_for.specs.declared.wide.Tasks.{Tasks}
 use Rattle.mrc_stand_for.specs.declared.wide.WideClass.{WideClass}
 use Rattle.mrc_stand_for.specs.Once.{same_class, same_right}
@@ -37,7 +34,6 @@ use Rattle.mrc_wide_policy.specs.PolicyStanding.{expected_classes, rows_of, righ
 use Rattle.mrc_wide_policy.specs.PolicyStanding.{has_name, named_facts, waived_of, counted}
 use Rattle.mrc_wide_policy.specs.PolicyStanding.{add_group, add_set, add_forbid, add_expect}
 use Rattle.mrc_wide_policy.specs.PolicyStanding.{add_waive, says_more, add_line, nothing_demanded}
-use Rattle.mrc_wide_policy.specs.PolicyStanding.{policy_stands}
 
 -- ---- the facts of a product
 
@@ -147,9 +143,9 @@ any_filter t p [] h = h
 any_filter t p (x ∷ xs) h =
     let choose : Bool → Bool = λ b. list_any t (cond b (x ∷ filter p xs) (filter p xs)) in
     elim (cases_Bool (p x)) [
-      | inl yes ↦ or_more (t x) (list_any t (filter p xs)) (list_any t xs) (any_filter t p xs)
-          (sym (ap choose yes) ∙ h)
-      | inr no ↦ or_last (t x) (list_any t xs) (any_filter t p xs (sym (ap choose no) ∙ h))
+      | inl passes ↦ or_more (t x) (list_any t (filter p xs)) (list_any t xs) (any_filter t p xs)
+          (sym (ap choose passes) ∙ h)
+      | inr fails ↦ or_last (t x) (list_any t xs) (any_filter t p xs (sym (ap choose fails) ∙ h))
     ]
 
 -- a fact of some of the lines is one of all
@@ -162,12 +158,12 @@ any_line t p (line ∷ lines) h =
     (cond b (line ∷ filter p lines) (filter p lines))) in
     let whole = list_any-append t line.facts (facts_of lines) in
     elim (cases_Bool (p line)) [
-      | inl yes ↦ whole ∙ or_more (list_any t line.facts) (list_any t (facts_of (filter p lines)))
+      | inl passes ↦ whole ∙ or_more (list_any t line.facts) (list_any t (facts_of (filter p lines)))
           (list_any t (facts_of lines)) (any_line t p lines)
           (sym (list_any-append t line.facts (facts_of (filter p lines)))
-          ∙ sym (ap choose yes) ∙ h)
-      | inr no ↦ whole ∙ or_last (list_any t line.facts) (list_any t (facts_of lines))
-          (any_line t p lines (sym (ap choose no) ∙ h))
+          ∙ sym (ap choose passes) ∙ h)
+      | inr fails ↦ whole ∙ or_last (list_any t line.facts) (list_any t (facts_of lines))
+          (any_line t p lines (sym (ap choose fails) ∙ h))
     ]
 
 -- a fact of the lines so far is one of those and more
