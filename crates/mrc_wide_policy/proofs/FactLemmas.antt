@@ -4,6 +4,7 @@ use Rattle.std.proofs.Common.{map, length, Option, Some, None, Ok, refl, sym, ap
 use Rattle.std.proofs.Common.{subst, inl, inr, ◌⊎◌}
 use Rattle.std.specs.Prelude.{bytes_eq, filter, fold, nat_eq}
 use Rattle.std.specs.List.{list_any}
+use Rattle.std.proofs.Math.Bool.{or-true}
 use Rattle.std.proofs.lemmas.Bool.{cases_Bool}
 use Rattle.std.proofs.lemmas.Grind.{flat_map-append}
 use Rattle.std.proofs.lemmas.List.Folds.{list_any-append}
@@ -114,17 +115,9 @@ or_more : (x y z : Bool) → (y ≡ true → z ≡ true) → (x || y) ≡ true �
 or_more true y z more h = refl
 or_more false y z more h = more h
 
-or_last : (x y : Bool) → y ≡ true → (x || y) ≡ true
-or_last true y h = refl
-or_last false y h = h
-
-or_first : (x y : Bool) → x ≡ true → (x || y) ≡ true
-or_first true y h = refl
-or_first false y h = absurd cc
-
 or_between : (x y z : Bool) → (x || z) ≡ true → (x || (y || z)) ≡ true
 or_between true y z h = refl
-or_between false y z h = or_last y z h
+or_between false y z h = ap (λ b. y || b) h ∙ or-true y
 
 or_either : (x y : Bool) → (x || (y || false)) ≡ true → (x ≡ true) ⊎ (y ≡ true)
 or_either true y h = inl refl
@@ -145,7 +138,8 @@ any_filter t p (x ∷ xs) h =
     elim (cases_Bool (p x)) [
       | inl passes ↦ or_more (t x) (list_any t (filter p xs)) (list_any t xs) (any_filter t p xs)
           (sym (ap choose passes) ∙ h)
-      | inr fails ↦ or_last (t x) (list_any t xs) (any_filter t p xs (sym (ap choose fails) ∙ h))
+      | inr fails ↦ ap (λ b. t x || b) (any_filter t p xs (sym (ap choose fails) ∙ h))
+          ∙ or-true (t x)
     ]
 
 -- a fact of some of the lines is one of all
@@ -162,8 +156,9 @@ any_line t p (line ∷ lines) h =
           (list_any t (facts_of lines)) (any_line t p lines)
           (sym (list_any-append t line.facts (facts_of (filter p lines)))
           ∙ sym (ap choose passes) ∙ h)
-      | inr fails ↦ whole ∙ or_last (list_any t line.facts) (list_any t (facts_of lines))
-          (any_line t p lines (sym (ap choose fails) ∙ h))
+      | inr fails ↦ whole
+          ∙ ap (λ b. list_any t line.facts || b)
+          (any_line t p lines (sym (ap choose fails) ∙ h)) ∙ or-true (list_any t line.facts)
     ]
 
 -- a fact of the lines so far is one of those and more
@@ -173,7 +168,7 @@ any_longer : (t : NamedFact → Bool) (lines more : List FactLine)
 any_longer t lines more h =
     ap (list_any t) (flat_map-append (λ (line : FactLine). line.facts) lines more)
     ∙ list_any-append t (facts_of lines) (facts_of more)
-    ∙ or_first (list_any t (facts_of lines)) (list_any t (facts_of more)) h
+    ∙ ap (λ b. b || list_any t (facts_of more)) h
 
 -- ---- new facts are among those that were given
 
@@ -188,7 +183,7 @@ new_one t false so_far f left h =
 new_some : (t : NamedFact → Bool) (waived : List WaivedLine) (so_far facts : List NamedFact)
     → list_any t (fold (with_new waived) so_far facts) ≡ true
     → (list_any t so_far || list_any t facts) ≡ true
-new_some t waived so_far [] h = or_first (list_any t so_far) false h
+new_some t waived so_far [] h = ap (λ b. b || false) h
 new_some t waived so_far (f ∷ facts) h =
     new_one t (is_waived waived f || list_any (same_fact f) so_far) so_far f (list_any t facts)
     (new_some t waived (with_new waived so_far f) facts h)

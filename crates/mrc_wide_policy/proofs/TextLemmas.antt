@@ -173,7 +173,8 @@ text_found bytes says e =
     >>= λ said. with_heading said) says e in
     let text = decoded bytes a.0 a.1 in
     let b = bind_ok (add_lines 1 None (lines a.0)) (λ said. with_heading said) says a.2 in
-    let all = b.1 ∙ ap (λ (r : SoFar). Ok r) (has_heading b.0 says b.2) in
+    let all : add_lines 1 None (lines a.0) ≡ Ok (Some says) = b.1
+    ∙ ap (λ (r : SoFar). Ok r) (has_heading b.0 says b.2) in
     let found = lines_found 1 (lines a.0) says all in
     let same : lines bytes ≡ lines a.0 = ap lines text.1 in
     record {

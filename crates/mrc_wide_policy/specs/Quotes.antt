@@ -3,6 +3,7 @@
 use Rattle.std.specs.Prelude.{ℕ, ◌-◌, Bool, false, ◌==◌, ◌&&◌, ◌||◌, not, nat_le, nat_lt, List, []}
 use Rattle.std.specs.Prelude.{◌∷◌, ◌++◌, length, take, drop, Option, Some, None, if◌then◌else◌}
 use Rattle.std.specs.List.{list_any, slice_split, slice_index}
+use Rattle.std.specs.Str.{is_utf8}
 use Rattle.mrc_wiring_text.specs.Lexis.{is_hash, words}
 
 -- a `"`
@@ -63,3 +64,7 @@ is_in_quotes word =
 unfoldable pub quoted_of : List ℕ → Option (List ℕ)
 quoted_of word =
     if is_in_quotes word && is_string (inside word) then Some (inside word) else None
+
+-- bytes that are a text
+abbrev pub as_text : List ℕ → Option (List ℕ)
+as_text bytes = if is_utf8 bytes then Some bytes else None

@@ -3,14 +3,16 @@
 ghost use Rattle.std.specs.Prelude.{◌≡◌, ◌<◌, ◌≤◌, ◌++◌, ◌∷◌, [], length, map, drop};
 ghost use Rattle.std.specs.Prelude.{IfOk, OnOk, IsTrue};
 ghost use Rattle.std.specs.List.{list_any, slice_split};
+ghost use Rattle.std.specs.Option.{option_map};
 ghost use Rattle.mrc_wiring_text.specs.Lexis.{is_hash, words};
 ghost use Rattle.mrc_wide_policy.specs.Quotes.{is_quote, string_word, by_turns, quoted_words};
 ghost use Rattle.mrc_wide_policy.specs.Quotes.{ends_control, has_control, is_string, inside};
-ghost use Rattle.mrc_wide_policy.specs.Quotes.{is_in_quotes, quoted_of};
+ghost use Rattle.mrc_wide_policy.specs.Quotes.{is_in_quotes, quoted_of, as_text};
 
 use mrc_wiring_text::{between_blanks, spaced};
 use std::alloc::{AllocError, Global};
 use std::marker::Model;
+use std::str;
 
 /// Bytes of a string, at most.
 pub const STRING: usize = 128;
@@ -104,7 +106,17 @@ impl Quoted {
         })
     }
 
-    /// The text, as UTF-8.
+    /// The text, if it is UTF-8, as that of a policy is.
+    pub fn as_str(&self) -> Option<&str>
+        ensures { option_map (λ text. text.now) result ≡ as_text self.now }
+    {
+        match str::from_utf8(self.as_bytes()) {
+            Ok(text) => Some(text),
+            Err(_) => None,
+        }
+    }
+
+    /// The bytes of the text.
     pub fn as_bytes(&self) -> &[u8]
         ensures kept { IsTrue (is_string self.now) }
         ensures exact { result.now ≡ self.now }
