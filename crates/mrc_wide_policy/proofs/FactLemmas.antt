@@ -232,6 +232,7 @@ waive_kept so_far after n name product because kept e =
     let same = chosen (nat_eq (length those.0) 0) (Empty n) those.0 some.0 some.1 in
     let line : WaivedLine = record {
       number = n;
+      name = name;
       because = because;
       facts = new_facts so_far.waived some.0;
     } in

@@ -191,6 +191,7 @@ add_waive so_far n name product because = do
     count = count;
     waived = so_far.waived ++ record {
       number = n;
+      name = name;
       because = because;
       facts = new_facts so_far.waived some;
     } ∷ [];

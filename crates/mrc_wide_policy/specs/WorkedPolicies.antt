@@ -104,9 +104,10 @@ refused fault = Some (Err fault)
 abbrev line : ℕ → Option (List ℕ) → List NamedFact → FactLine
 line n name facts = record { number = n; name = name; facts = facts }
 
--- a line that waives
+-- a line that waives what lines of the name x forbid
 abbrev waiver : ℕ → List ℕ → List NamedFact → WaivedLine
-waiver n because facts = record { number = n; because = because; facts = facts }
+waiver n because facts =
+    record { number = n; name = codes "x"; because = because; facts = facts }
 
 -- ---- what lines say
 

@@ -49,6 +49,8 @@ pub struct FactLine {
 pub struct WaivedLine {
     /// Its number.
     pub number: u32,
+    /// Its NAME.
+    pub name: Quoted,
     /// Its reason.
     pub because: Quoted,
     /// The facts that it waives and no line above does.

@@ -268,10 +268,12 @@ impl Demands {
         }
         let facts = new_facts(alloc, self.waived.as_slice(), those.into_vec())?;
         let count = counted(line, self.count, facts.as_slice())?;
+        let name = name.copy(alloc)?;
         let because = because.copy(alloc)?;
         self.count = count;
         self.waived.push(WaivedLine {
             number: line,
+            name,
             because,
             facts,
         })?;
