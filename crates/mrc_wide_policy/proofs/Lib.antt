@@ -3,3 +3,4 @@ mod LineLemmas
 mod TextLemmas
 mod OtherLemmas
 mod FactLemmas
+mod OneLemmas

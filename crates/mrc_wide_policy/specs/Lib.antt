@@ -6,5 +6,6 @@ pub mod PolicyTexts
 pub mod Facts
 pub mod PolicyStanding
 pub mod FactLaws
+pub mod LineLaws
 pub mod Worked
 pub mod WorkedPolicies
