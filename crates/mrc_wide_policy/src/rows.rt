@@ -15,7 +15,7 @@ ghost use Rattle.mrc_wide_policy.specs.PolicyStanding.{rows_of};
 use crate::facts::{Row, copy_class, has_class, is_same_name};
 use crate::says::Product;
 use mrc_base::OrMemory;
-use mrc_stand_for::{Known, Several, StandFault, WideClass, classes_of, tasks_of};
+use mrc_stand_for::{Found, Known, Several, StandFault, WideClass, classes_of, tasks_of};
 use mrc_wiring_text::{ClassName, Name};
 use std::alloc::{AllocError, Global};
 
@@ -111,7 +111,7 @@ fn class_alone(
     ensures { Gives (λ found. found) result (class_alone known.now line holder.now class.now) }
 {
     let found = classes_of(alloc, known, line, holder, single)?;
-    let mrc_stand_for::Found { classes, closed } = found;
+    let Found { classes, closed } = found;
     drop(closed);
     Ok(classes)
 }
@@ -204,7 +204,7 @@ fn held_classes(
         return expected_classes(alloc, known, sets, line, &holder, classes);
     }
     let found = classes_of(alloc, known, line, &holder, classes)?;
-    let mrc_stand_for::Found { classes, closed } = found;
+    let Found { classes, closed } = found;
     drop(closed);
     Ok(classes)
 }
