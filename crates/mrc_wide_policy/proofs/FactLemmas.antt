@@ -29,9 +29,12 @@ use Rattle.mrc_wide_policy.specs.declared.says.PolicySays.TheVariants as says
 use Rattle.mrc_wide_policy.specs.declared.says.Product.{Product}
 use Rattle.mrc_wide_policy.specs.declared.standing.Demands.{Demands}
 use Rattle.mrc_wide_policy.specs.FactLaws.{ProductsHaveTheirFacts, WaivedIsForbidden}
-use Rattle.mrc_wide_policy.specs.Facts.{fact, right_facts, row_facts, facts_in, same_fact, is_of_row}
-use Rattle.mrc_wide_policy.specs.Facts.{is_in, facts_of, is_of_waiver, is_waived, with_new, new_facts}
-use Rattle.mrc_wide_policy.specs.PolicyStanding.{expected_classes, rows_of, rights_in, product_facts}
+use Rattle.mrc_wide_policy.specs.Facts.{fact, right_facts, row_facts, facts_in, same_fact}
+use Rattle.mrc_wide_policy.specs.Facts.{is_of_row}
+use Rattle.mrc_wide_policy.specs.Facts.{is_in, facts_of, is_of_waiver, is_waived, with_new}
+use Rattle.mrc_wide_policy.specs.Facts.{new_facts}
+use Rattle.mrc_wide_policy.specs.PolicyStanding.{expected_classes, rows_of, rights_in}
+use Rattle.mrc_wide_policy.specs.PolicyStanding.{product_facts}
 use Rattle.mrc_wide_policy.specs.PolicyStanding.{has_name, named_facts, waived_of, counted}
 use Rattle.mrc_wide_policy.specs.PolicyStanding.{add_group, add_set, add_forbid, add_expect}
 use Rattle.mrc_wide_policy.specs.PolicyStanding.{add_waive, says_more, add_line, nothing_demanded}
@@ -152,7 +155,8 @@ any_line t p (line ∷ lines) h =
     (cond b (line ∷ filter p lines) (filter p lines))) in
     let whole = list_any-append t line.facts (facts_of lines) in
     elim (cases_Bool (p line)) [
-      | inl passes ↦ whole ∙ or_more (list_any t line.facts) (list_any t (facts_of (filter p lines)))
+      | inl passes ↦ whole
+          ∙ or_more (list_any t line.facts) (list_any t (facts_of (filter p lines)))
           (list_any t (facts_of lines)) (any_line t p lines)
           (sym (list_any-append t line.facts (facts_of (filter p lines)))
           ∙ sym (ap choose passes) ∙ h)

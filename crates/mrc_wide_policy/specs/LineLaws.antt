@@ -1,4 +1,4 @@
--- Law. A line of one name in each list names one fact, and births that are expected are births alone.
+-- Law. A line of one name in each list names one fact. Births that are expected are births alone.
 use Rattle.std.specs.Prelude.{◌≡◌, ℕ, Bool, true, List, [], ◌∷◌, Ok}
 use Rattle.mrc_base.specs.declared.PortRight.{PortRight}
 use Rattle.mrc_wiring_text.specs.declared.policy.ClassName.TheVariants as class
