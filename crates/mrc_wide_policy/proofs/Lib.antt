@@ -1,0 +1,6 @@
+mod QuoteLemmas
+mod LineLemmas
+mod TextLemmas
+mod OtherLemmas
+mod FactLemmas
+mod OneLemmas

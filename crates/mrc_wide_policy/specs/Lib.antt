@@ -1,0 +1,11 @@
+pub mod Quotes
+pub mod QuoteLaws
+pub mod PolicyLines
+pub mod PolicyReading
+pub mod PolicyTexts
+pub mod Facts
+pub mod PolicyStanding
+pub mod FactLaws
+pub mod LineLaws
+pub mod Worked
+pub mod WorkedPolicies
