@@ -8,6 +8,8 @@ import copy
 import struct
 from dataclasses import dataclass, field
 
+from expand import Stood, version_of
+
 NULL, DEAD = 0, 0xFFFFFFFF
 SPACE, REFERENCES, PORTS = 4096, 65535, 65536
 
@@ -191,14 +193,15 @@ def lines_of(text):
 
 
 class Machine:
-    """The machine of a wiring over the forms of interfaces."""
+    """The machine of a wiring over the forms of interfaces: of version 4 by the lines that it stands for."""
 
     def __init__(self, wiring, interfaces=INTERFACES):
         self.tasks, self.ports, self.births = [], {}, 0
         self.labels, self.admits, self.kinds = {}, {}, set()
         self.limits, self.replies_fit = {verb: {} for verb in VERBS}, False
         self.interfaces, self.numbers, ports = interfaces, {}, {}
-        for word, *rest in lines_of(wiring)[1:]:
+        plain = Stood(wiring).older() if version_of(wiring)[0] == 4 else wiring
+        for word, *rest in lines_of(plain)[1:]:
             if word == "task":
                 self.numbers[rest[0]] = len(self.tasks)
                 task = Task(rest[0], self.birth("task " + rest[0]), rest[0])
