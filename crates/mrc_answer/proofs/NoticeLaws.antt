@@ -1,6 +1,6 @@
 -- What is told besides an answer: of MIG files and of trusted tasks, one after the other; and all
 -- of it by the least set.
-use Rattle.std.proofs.Common.{Bool}
+use Rattle.std.proofs.Common.{Bool, not, ◌&&◌}
 use Rattle.std.proofs.Common.{◌≡◌, ◌∙◌, ℕ, ◌+◌, ◌<◌, ◌≤◌, List, [], ◌∷◌, ◌++◌, length, map, drop}
 use Rattle.std.proofs.Common.{get_or, append_assoc, ap, subst, sym, Vec, Global, Result, Ok, Err, Some, None, Option, refl}
 use Rattle.std.proofs.lemmas.List.{append-nil, drop_all}
@@ -21,8 +21,10 @@ use Rattle.mrc_words.specs.Words.{task_text, task_word}
 use Rattle.mrc_answer.specs.Files.{Files, given}
 use Rattle.mrc_answer.specs.Notices.{left_out, cut_before, cut_from, number_if, is_trusted}
 use Rattle.mrc_answer.specs.Notices.{name_if, trusted_from, trusted_names}
-use Rattle.mrc_answer.specs.Notices.{Notices, notices_of, yes_notices_of, AreNotices}
+use Rattle.mrc_answer.specs.Notices.{Notices, notices_from, notices_of, yes_notices_of, AreNotices}
 use Rattle.mrc_answer.specs.Notices.{AreYesNotices, Notification, is_empty, notification_from}
+use Rattle.mrc_answer.specs.Notices.{AreWaivedNotices, DemandNotices, demand_notices_of}
+use Rattle.mrc_answer.specs.Notices.{waived_notices_of}
 use Rattle.mrc_answer.specs.PlainLines.{PlainLine, plain_lines}
 use Rattle.mrc_answer.specs.LeakyLines.{LeakyLine, leaky_lines}
 use Rattle.mrc_dead.specs.Dead.{DeadParts, dead_parts}
@@ -103,13 +105,13 @@ names_end table names t all so =
 
 -- what is told of parts is told of all
 pub notices_made : (files : Files) (lines : List (Line WiringSays)) (claim : Claimed)
-    (set : Fact → Bool) (left : List (List (List ℕ))) (cut : List ℕ)
-    (notification : Option Notification) (empty : Bool) (plain : List PlainLine) (leaky : List LeakyLine) (dead : DeadParts)
-    (trusted : List (List ℕ))
+    (demands : DemandNotices) (set : Fact → Bool) (left : List (List (List ℕ))) (cut : List ℕ)
+    (notification : Option Notification) (empty : Bool) (plain : List PlainLine)
+    (leaky : List LeakyLine) (dead : DeadParts) (trusted : List (List ℕ))
     → left ≡ left_out files.texts.defs
     → cut ≡ cut_before files.texts.defs
     → notification ≡ notification_from 0 claim.table.interfaces
-    → empty ≡ is_empty claim.lines
+    → empty ≡ (is_empty claim.lines && not demands.waives)
     → plain ≡ plain_lines claim.table (given files.texts.policy)
     → leaky ≡ leaky_lines set claim.lines
     → dead ≡ dead_parts claim.table lines set
@@ -118,34 +120,39 @@ pub notices_made : (files : Files) (lines : List (Line WiringSays)) (claim : Cla
       cut_before = cut;
       notification = notification;
       is_empty_policy = empty;
+      demands = demands;
       plain = plain;
       leaky = leaky;
       dead = dead;
       trusted = trusted;
       wired = None;
-    } ≡ record (notices_of files (record { lines = lines; claim = claim }) set) {
-      trusted = trusted;
-    }
-notices_made files lines claim set left cut notification empty plain leaky dead trusted a b c d e f
+    } ≡ record (notices_from files lines claim demands set) { trusted = trusted }
+notices_made files lines claim demands set left cut notification empty plain leaky dead trusted a b c d e f
     g =
     rw (a, b, c, d, e, f, g) refl
 
 -- what is told by the parts of what files mean is told by that
 pub by_parts : {E : Type 0} (files : Files) (set : Fact → Bool) (trusted : List (List ℕ))
-    (lines items : List (Line WiringSays)) (claim : Claimed) (meant : Stated)
+    (lines : List (Line WiringSays)) (claim : Claimed) (demands : DemandNotices) (meant : Stated)
     (result : Result Notices E)
-    → lines ≡ items
-    → record { lines = items; claim = claim } ≡ meant
+    → lines ≡ meant.lines
+    → claim ≡ meant.claim
+    → demands ≡ demand_notices_of meant set
     → IfOk result (λ notices. notices
-    ≡ record (notices_of files (record { lines = lines; claim = claim }) set) {
-      trusted = trusted;
-    })
+    ≡ record (notices_from files lines claim demands set) { trusted = trusted })
     → IfOk result (λ notices. notices
     ≡ record (notices_of files meant set) { trusted = trusted })
-by_parts files set trusted lines items claim meant result same view told =
-    subst (λ (m : Stated). IfOk result (λ notices. notices
-    ≡ record (notices_of files m set) { trusted = trusted }))
-    (ap (λ (ls : List (Line WiringSays)). record { lines = ls; claim = claim }) same ∙ view) told
+by_parts files set trusted lines claim demands meant result same view asks told =
+    subst (λ (ls : List (Line WiringSays)). IfOk result (λ notices. notices
+    ≡ record (notices_from files ls meant.claim (demand_notices_of meant set) set) {
+      trusted = trusted;
+    })) same
+    (subst (λ (c : Claimed). IfOk result (λ notices. notices
+    ≡ record (notices_from files lines c (demand_notices_of meant set) set) {
+      trusted = trusted;
+    })) view
+    (subst (λ (d : DemandNotices). IfOk result (λ notices. notices
+    ≡ record (notices_from files lines claim d set) { trusted = trusted })) asks told))
 
 -- what is told besides a no is that by the least set
 pub no_by_least : {E : Type 0} (files : Files) (meant : Stated) (facts : List Fact)
@@ -163,6 +170,19 @@ no_by_least files meant facts trusted (Ok notices) its_least is empty = λ set l
     ∙ ap (notices_of files meant)
     (least_one (wiring_of meant.claim.table) (has facts) set its_least least))
 no_by_least files meant facts trusted (Err e) its_least is empty = tt
+
+-- and so is what is told besides a yes that waives
+pub waived_by_least : {E : Type 0} (files : Files) (meant : Stated) (facts : List Fact)
+    (result : Result Notices E)
+    → IsLeast (wiring_of meant.claim.table) (has facts)
+    → IfOk result (λ notices. notices ≡ record (notices_of files meant (has facts)) {
+      trusted = trusted_names meant.claim.table;
+    })
+    → IfOk result (AreWaivedNotices files meant)
+waived_by_least files meant facts (Ok notices) its_least is = λ set least.
+    is ∙ ap (waived_notices_of files meant)
+    (least_one (wiring_of meant.claim.table) (has facts) set its_least least)
+waived_by_least files meant facts (Err e) its_least is = tt
 
 -- and so is what is told besides a yes
 pub yes_by_least : (files : Files) (meant : Stated) (facts : List Fact) (notices made : Notices)

@@ -1,8 +1,9 @@
 -- Believe. The files that a command names, by their roles, and the texts that they hold. This
 -- profile's own choice.
-use Rattle.std.specs.Prelude.{ℕ, List, [], ◌∷◌, ◌++◌, map, Option, Some, None, get_or}
+use Rattle.std.specs.Prelude.{◌≡◌, ℕ, Bool, List, [], ◌∷◌, ◌++◌, map, Option, Some, None, get_or}
 use Rattle.std.specs.Option.{option_map, option_to_list, unwrap_or}
 use Rattle.std.specs.Borrow.{Bor}
+use Rattle.mrc_check.specs.Texts.{Policy}
 use Rattle.mrc_command.specs.declared.command.FileNames.{FileNames}
 use Rattle.mrc_files.specs.Files.{Held, HasBytes, AreHeld}
 
@@ -11,6 +12,7 @@ pub record Texts : Type 0 where
   pub defs : List (List ℕ)
   pub wiring : List ℕ
   pub policy : Option (List ℕ)
+  pub waives : Bool
   pub certificate : Option (List ℕ)
   pub script : Option (List ℕ)
 
@@ -22,6 +24,10 @@ pub record Files : Type 0 where
 -- a text that may be given: an empty one, if it is not
 abbrev pub given : Option (List ℕ) → List ℕ
 given text = unwrap_or text []
+
+-- the policy as it is asked for
+abbrev pub asked_policy : Texts → Policy
+asked_policy texts = record { bytes = given texts.policy; waives = texts.waives }
 
 -- a word that may be given
 abbrev pub word_of : Option (Bor (List ℕ)) → Option (List ℕ)
@@ -53,10 +59,12 @@ IsHeld held None (Some text) = ⊥
 IsHeld held (Some file) None = ⊥
 IsHeld held (Some file) (Some text) = HasBytes held file text
 
--- each text is that of the file of its role, so far as that is known
+-- each text is that of the file of its role, so far as that is known; and what the policy waives is
+-- let pass if that is asked for
 pub record AreRead (held : Held) (names : FileNames) (texts : Texts) : Type 0 where
   pub defs : AreHeld held (defs_names names) texts.defs
   pub wiring : HasBytes held names.wiring.now texts.wiring
   pub policy : IsHeld held (word_of names.policy) texts.policy
+  pub waives : texts.waives ≡ names.waives
   pub certificate : IsHeld held (word_of names.certificate) texts.certificate
   pub script : IsHeld held (word_of names.script) texts.script

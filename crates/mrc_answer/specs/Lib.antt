@@ -2,10 +2,12 @@ pub mod Files
 pub mod Texts
 pub mod PlainLines
 pub mod LeakyLines
+pub mod Expected
 pub mod Notices
 pub mod Statuses
 pub mod Verified
 pub mod VerifiedLaws
+pub mod Judging
 pub mod Checked
 pub mod Explained
 pub mod Listed

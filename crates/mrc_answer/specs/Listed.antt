@@ -1,6 +1,6 @@
 -- Believe. What is right of the facts of a certificate, or of those of the least set: those that
 -- are asked for, as a list or as a drawing. This profile's own choice.
-use Rattle.std.specs.Prelude.{◌≡◌, Bool, ℕ, List, [], Option, Some, None, Result, Ok, Err}
+use Rattle.std.specs.Prelude.{◌≡◌, Bool, false, ℕ, List, [], Option, Some, None, Result, Ok, Err}
 use Rattle.std.specs.Prelude.{filter, map}
 use Rattle.mrc_base.specs.declared.Fact.{Fact}
 use Rattle.mrc_base.specs.Reading.{◌>>=◌}
@@ -31,7 +31,7 @@ use Rattle.mrc_answer.specs.declared.faults.WordFault.{WordFault}
 use Rattle.mrc_answer.specs.declared.faults.WordFault.TheVariants.{BadFact, BadTask, BadClass}
 use Rattle.mrc_answer.specs.declared.faults.WordFault.TheVariants.{BadRight}
 use Rattle.mrc_answer.specs.Explained.{IsNamed, NamesNone, OfMeaning}
-use Rattle.mrc_answer.specs.Files.{Files, Texts}
+use Rattle.mrc_answer.specs.Files.{Files, Texts, asked_policy}
 use Rattle.mrc_answer.specs.Texts.{system}
 
 -- What the texts mean.
@@ -49,17 +49,25 @@ drafted texts = do
   meant ← system texts
   draft_given texts.certificate
 
+-- a system of which nothing is demanded
+abbrev pub without_policy : Meant → Stated
+without_policy meant = record {
+  lines = meant.lines;
+  claim = record { table = meant.table; lines = [] };
+  stands = record { is_wide = false; lines = []; waived = [] };
+  demands = [];
+}
+
 -- a system with what a policy forbids in it: nothing, if none is given
-abbrev pub claim_given : Option (List ℕ) → Meant → Result Stated Meaningless
-claim_given None meant =
-    Ok (record { lines = meant.lines; claim = record { table = meant.table; lines = [] } })
-claim_given (Some policy) meant = stated_by meant policy
+abbrev pub claim_given : Option (List ℕ) → Texts → Meant → Result Stated Meaningless
+claim_given None texts meant = Ok (without_policy meant)
+claim_given (Some policy) texts meant = stated_by meant (asked_policy texts)
 
 -- the same of MIG files, a wiring and a policy
 abbrev pub claimed : Texts → Result Stated Meaningless
 claimed texts = do
   meant ← system texts
-  claim_given texts.policy meant
+  claim_given texts.policy texts meant
 
 -- what a certificate answers, if it is looked at: not for the chain of a fact
 abbrev pub draft_drawn : Option (List ℕ) → Option (List ℕ) → Result (Option Content) Meaningless

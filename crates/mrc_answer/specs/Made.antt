@@ -18,7 +18,7 @@ use Rattle.mrc_answer.specs.declared.faults.Fault.{Fault as Failure}
 use Rattle.mrc_answer.specs.declared.faults.Fault.TheVariants.{Meaning, Word, Unwritten}
 use Rattle.mrc_answer.specs.declared.faults.WordFault.TheVariants.{Workers}
 use Rattle.mrc_answer.specs.declared.faults.Unwritten.{Unwritten as UnwrittenFile}
-use Rattle.mrc_answer.specs.Files.{Files, Texts, given}
+use Rattle.mrc_answer.specs.Files.{Files, Texts, asked_policy}
 use Rattle.mrc_answer.specs.Texts.{system, stated}
 use Rattle.mrc_answer.specs.Verified.{IsUnverified}
 
@@ -96,7 +96,7 @@ pub record AreMends (line : Option ℕ) (most : ℕ) (files : Files) (answer : M
   pub needed : IsNeededOf (stated files.texts) line answer
   pub within : AreAtMost most answer
   pub right : AreAnswered
-      (IsMend files.texts.defs files.texts.wiring (given files.texts.policy) line) answer
+      (IsMend files.texts.defs files.texts.wiring (asked_policy files.texts) line) answer
 
 -- what `mend` answers: there are no mends for the same reasons for which `verify` has no answer
 abbrev pub IsMending : Option ℕ → ℕ → Files → Answer → Type 0

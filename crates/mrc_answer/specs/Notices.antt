@@ -1,8 +1,8 @@
 -- Believe. What is told besides an answer: routines that may carry rights and are left out of MIG
 -- files, files that an older `mig` has cut, routines of notifications, a policy that is easily read
 -- wrongly, parts that can do nothing, and trusted tasks. This profile's own choice.
-use Rattle.std.specs.Prelude.{◌≡◌, ℕ, ◌+◌, ◌==◌, Bool, true, false, ◌||◌, List, [], ◌∷◌, ◌++◌, map}
-use Rattle.std.specs.Prelude.{Option, Some, None, bytes_eq, codes, find}
+use Rattle.std.specs.Prelude.{◌≡◌, ℕ, ◌+◌, ◌==◌, Bool, true, false, not, ◌&&◌, ◌||◌, List, [], ◌∷◌}
+use Rattle.std.specs.Prelude.{◌++◌, map, filter, Option, Some, None, bytes_eq, codes, find}
 use Rattle.std.specs.List.{list_any}
 use Rattle.mrc_base.specs.declared.Fact.{Fact}
 use Rattle.mrc_model.specs.Rules.{IsLeast}
@@ -10,11 +10,21 @@ use Rattle.mrc_forms.specs.declared.form.MessageKind.TheVariants.{Request}
 use Rattle.mrc_forms.specs.Forms.{Form}
 use Rattle.mrc_forms.specs.Tables.{Table as Interface, forms_by}
 use Rattle.mrc_interface.specs.Left.{carriers, is_old_cut}
+use Rattle.mrc_wide_policy.specs.declared.asked.Stance.{Stance}
+use Rattle.mrc_wide_policy.specs.declared.asked.Stance.TheVariants.{Forbidden, Waived, Expected}
+use Rattle.mrc_wide_policy.specs.declared.facts.WaivedLine.{WaivedLine}
+use Rattle.mrc_wide_policy.specs.Asked.{waiver_number}
+use Rattle.mrc_wiring_text.specs.declared.reading.Line.{Line}
+use Rattle.mrc_wiring_text.specs.declared.wiring.WiringSays.{WiringSays}
+use Rattle.mrc_wiring.specs.Claims.{Claimed}
 use Rattle.mrc_wiring.specs.declared.claim.ForbiddenLine.{ForbiddenLine}
 use Rattle.mrc_wiring.specs.declared.table.TrustedLine.{TrustedLine}
 use Rattle.mrc_wiring.specs.Table.{Table, wiring_of}
 use Rattle.mrc_dead.specs.Dead.{DeadParts, dead_parts, no_dead_parts}
+use Rattle.mrc_check.specs.declared.demands.Demand.{Demand}
 use Rattle.mrc_check.specs.Texts.{Stated}
+use Rattle.mrc_why.specs.Answered.{is_waived, told}
+use Rattle.mrc_answer.specs.Expected.{does_expect, expected_facts}
 use Rattle.mrc_answer.specs.Files.{Files, given}
 use Rattle.mrc_answer.specs.PlainLines.{PlainLine, plain_lines}
 use Rattle.mrc_answer.specs.LeakyLines.{LeakyLine, leaky_lines}
@@ -24,12 +34,26 @@ pub record Notification : Type 0 where
   pub file : ℕ
   pub routine : List ℕ
 
+-- what is told of a policy of version 3: whether it waives something, whether it expects nothing,
+-- the numbers of the lines that waive nothing, and, besides the answer to a certificate, how many
+-- facts it expects
+pub record DemandNotices : Type 0 where
+  pub waives : Bool
+  pub expects_nothing : Bool
+  pub idle : List ℕ
+  pub unjudged : ℕ
+
+-- nothing
+abbrev pub no_demand_notices : DemandNotices
+no_demand_notices = record { waives = false; expects_nothing = false; idle = []; unjudged = 0 }
+
 -- All that is told besides an answer.
 pub record Notices : Type 0 where
   pub left_out : List (List (List ℕ))
   pub cut_before : List ℕ
   pub notification : Option Notification
   pub is_empty_policy : Bool
+  pub demands : DemandNotices
   pub plain : List PlainLine
   pub leaky : List LeakyLine
   pub dead : DeadParts
@@ -43,6 +67,7 @@ no_notices = record {
   cut_before = [];
   notification = None;
   is_empty_policy = false;
+  demands = no_demand_notices;
   plain = [];
   leaky = [];
   dead = no_dead_parts;
@@ -119,19 +144,50 @@ trusted_from lines n (name ∷ names) =
 abbrev pub trusted_names : Table → List (List ℕ)
 trusted_names table = trusted_from table.trusts 0 table.names
 
--- what is told besides a no of files and what they mean, by a set of facts
-abbrev pub notices_of : Files → Stated → (Fact → Bool) → Notices
-notices_of files meant set = record {
+-- a demand is waived by the line of this number
+abbrev pub is_waived_by : ℕ → Stance → Bool
+is_waived_by n Forbidden = false
+is_waived_by n (Waived m) = m == n
+is_waived_by n Expected = false
+
+-- the line waives none of the demands that are told
+abbrev pub is_idle : List Demand → WaivedLine → Bool
+is_idle told line = not (list_any (λ demand. is_waived_by line.number demand.stance) told)
+
+-- what is told of what a policy demands, by a set of facts
+abbrev pub demand_notices_of : Stated → (Fact → Bool) → DemandNotices
+demand_notices_of meant set = record {
+  waives = list_any is_waived meant.demands;
+  expects_nothing = meant.stands.is_wide && not (list_any does_expect meant.stands.lines);
+  idle = map waiver_number (filter (is_idle (told set meant.demands)) meant.stands.waived);
+  unjudged = 0;
+}
+
+-- what is told besides a no, of lines of a wiring, a claim and what a policy demands
+abbrev pub notices_from : Files → List (Line WiringSays) → Claimed → DemandNotices → (Fact → Bool)
+    → Notices
+notices_from files lines claim demands set = record {
   left_out = left_out files.texts.defs;
   cut_before = cut_before files.texts.defs;
-  notification = notification_from 0 meant.claim.table.interfaces;
-  is_empty_policy = is_empty meant.claim.lines;
-  plain = plain_lines meant.claim.table (given files.texts.policy);
-  leaky = leaky_lines set meant.claim.lines;
-  dead = dead_parts meant.claim.table meant.lines set;
+  notification = notification_from 0 claim.table.interfaces;
+  is_empty_policy = is_empty claim.lines && not demands.waives;
+  demands = demands;
+  plain = plain_lines claim.table (given files.texts.policy);
+  leaky = leaky_lines set claim.lines;
+  dead = dead_parts claim.table lines set;
   trusted = [];
   wired = None;
 }
+
+-- what is told besides a no of files and what they mean, by a set of facts
+abbrev pub notices_of : Files → Stated → (Fact → Bool) → Notices
+notices_of files meant set =
+    notices_from files meant.lines meant.claim (demand_notices_of meant set) set
+
+-- the same besides a yes that waives: also which tasks are trusted
+abbrev pub waived_notices_of : Files → Stated → (Fact → Bool) → Notices
+waived_notices_of files meant set =
+    record (notices_of files meant set) { trusted = trusted_names meant.claim.table }
 
 -- the same besides a yes: also which tasks are trusted, and the wiring
 abbrev pub yes_notices_of : Files → Stated → (Fact → Bool) → Notices
@@ -146,6 +202,12 @@ AreNotices files meant notices =
     (set : Fact → Bool) → IsLeast (wiring_of meant.claim.table) set
     → notices ≡ notices_of files meant set
 
+-- these are told besides a yes that waives, by the least set
+abbrev pub AreWaivedNotices : Files → Stated → Notices → Type 0
+AreWaivedNotices files meant notices =
+    (set : Fact → Bool) → IsLeast (wiring_of meant.claim.table) set
+    → notices ≡ waived_notices_of files meant set
+
 -- these are told besides a yes, by the least set
 abbrev pub AreYesNotices : Files → Stated → Notices → Type 0
 AreYesNotices files meant notices =
@@ -157,6 +219,7 @@ abbrev pub left_out_alone : Files → Notices
 left_out_alone files = record no_notices {
   left_out = left_out files.texts.defs;
   cut_before = cut_before files.texts.defs;
+  demands = record no_demand_notices { unjudged = expected_facts files.texts };
 }
 
 -- what is told besides a certificate that is accepted
@@ -164,5 +227,6 @@ abbrev pub left_out_and_trusted : Files → Table → Notices
 left_out_and_trusted files table = record no_notices {
   left_out = left_out files.texts.defs;
   cut_before = cut_before files.texts.defs;
+  demands = record no_demand_notices { unjudged = expected_facts files.texts };
   trusted = trusted_names table;
 }

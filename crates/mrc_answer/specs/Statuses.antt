@@ -4,9 +4,9 @@ use Rattle.std.specs.Prelude.{ℕ, List, [], ◌∷◌}
 use Rattle.mrc_mend.specs.declared.answers.Answer.{Answer as Mending}
 use Rattle.mrc_mend.specs.declared.answers.Answer.TheVariants.{Nothing, Found}
 use Rattle.mrc_answer.specs.declared.answers.Answer.{Answer}
-use Rattle.mrc_answer.specs.declared.answers.Answer.TheVariants.{Yes, Broken, Refused, Attacks}
-use Rattle.mrc_answer.specs.declared.answers.Answer.TheVariants.{Mends, Made, Chain, NoChain, Facts}
-use Rattle.mrc_answer.specs.declared.answers.Answer.TheVariants.{OtherCounts, Drawing, NoDrawing}
+use Rattle.mrc_answer.specs.declared.answers.Answer.TheVariants.{Yes, Waived, Broken, Refused}
+use Rattle.mrc_answer.specs.declared.answers.Answer.TheVariants.{Attacks, Mends, Made, Chain, NoChain}
+use Rattle.mrc_answer.specs.declared.answers.Answer.TheVariants.{Facts, OtherCounts, Drawing, NoDrawing}
 use Rattle.mrc_answer.specs.declared.answers.Answer.TheVariants.{Slots, Promises, Expanded, Replay}
 use Rattle.mrc_answer.specs.declared.answers.Answer.TheVariants.{Journal, Encoded, Decoded}
 use Rattle.mrc_answer.specs.declared.answers.Answer.TheVariants.{Waits, Mig, Fault}
@@ -32,6 +32,7 @@ mig_status (ends.Refused unwritten) = 2
 -- of an answer
 abbrev pub status_of : Answer → ℕ
 status_of Yes = 0
+status_of (Waived b) = 0
 status_of (Broken b) = 1
 status_of (Refused r) = 1
 status_of (Attacks a) = 1

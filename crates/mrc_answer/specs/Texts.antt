@@ -10,7 +10,7 @@ use Rattle.mrc_check.specs.Texts.{Meant, Stated, Meaningless, SayYes, system_of,
 use Rattle.mrc_check.specs.Texts.{InScript}
 use Rattle.mrc_report.specs.declared.script.TaskCall.{TaskCall}
 use Rattle.mrc_report.specs.Scripts.{script_of}
-use Rattle.mrc_answer.specs.Files.{Texts, given}
+use Rattle.mrc_answer.specs.Files.{Texts, asked_policy, given}
 
 -- the system that MIG files and wiring mean, or the first text that has no meaning
 abbrev pub system : Texts → Result Meant Meaningless
@@ -18,16 +18,16 @@ system texts = system_of texts.defs texts.wiring
 
 -- the same, and what the policy forbids in it
 abbrev pub stated : Texts → Result Stated Meaningless
-stated texts = stated_of texts.defs texts.wiring (given texts.policy)
+stated texts = stated_of texts.defs texts.wiring (asked_policy texts)
 
 -- the same, and what the certificate answers
 abbrev pub case : Texts → Result Case Meaningless
-case texts = case_of texts.defs texts.wiring (given texts.policy) (given texts.certificate)
+case texts = case_of texts.defs texts.wiring (asked_policy texts) (given texts.certificate)
 
 -- the checker's yes to the texts
 abbrev pub AreAccepted : Texts → Case → Type 0
 AreAccepted texts case =
-    SayYes texts.defs texts.wiring (given texts.policy) (given texts.certificate) case
+    SayYes texts.defs texts.wiring (asked_policy texts) (given texts.certificate) case
 
 -- what the script says to the tasks of a wiring, which run as threads (`live`) or do not
 abbrev pub script : Bool → Table → Texts → Result (List (Line TaskCall)) Meaningless

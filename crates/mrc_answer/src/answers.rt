@@ -7,7 +7,7 @@ use crate::faults::{Fault, Unwritten};
 use crate::notices::Notices;
 use mrc_attack::Attack;
 use mrc_base::Fact;
-use mrc_check::{Refused, Stated, System, Why};
+use mrc_check::{Demand, Refused, Stated, System, Why};
 use mrc_closure::Chain;
 use mrc_draw::Filter;
 use mrc_interface::Forms;
@@ -17,13 +17,16 @@ use mrc_why::Verdict;
 use mrc_wiring::Wired;
 use mrc_wiring_text::Edition;
 
-/// A system whose policy is broken.
+/// A system, and what is found of its policy.
 #[derive(Drop)]
-pub struct BrokenPolicy {
+pub struct JudgedPolicy {
     /// The system.
     pub stated: Stated,
     /// What is found of it.
     pub verdict: Verdict,
+    /// The demands of the policy that are told: what is forbidden or waived and is there, and what
+    /// is expected and is not.
+    pub told: Vec<Demand>,
     /// The number of the line of the policy that is asked for, if one is.
     pub only: Option<u32>,
 }
@@ -37,6 +40,8 @@ pub struct Attacked {
     pub only: Option<u32>,
     /// What was found for each line.
     pub found: Vec<Attack>,
+    /// The demands of the policy that are told.
+    pub told: Vec<Demand>,
 }
 
 /// A fact of a system, and a chain that derives it.
@@ -155,8 +160,10 @@ pub struct Waiting {
 pub enum Answer<'a> {
     /// `verify`, `attack`: the least set is a yes. `check`: the certificate is accepted.
     Yes,
-    /// `verify`: the policy is broken.
-    Broken(BrokenPolicy),
+    /// `verify`: the policy is broken, or what it expects is lacking. `attack`: only the latter.
+    Broken(JudgedPolicy),
+    /// `verify`, `attack`: the least set is a yes besides what is waived.
+    Waived(JudgedPolicy),
     /// `check`, `live`: the certificate is refused.
     Refused(Refused<Why>),
     /// `attack`: the policy is broken.
@@ -237,6 +244,7 @@ pub fn status_of(answer: &Answer<'_>) -> u8
 {
     match answer {
         Answer::Yes
+        | Answer::Waived(_)
         | Answer::Made(_)
         | Answer::Chain(_)
         | Answer::Facts(_)

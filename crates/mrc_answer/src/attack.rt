@@ -1,27 +1,30 @@
 //! What `attack` answers: calls that lead to what a policy forbids.
 
-ghost use Rattle.std.specs.Prelude.{◌≡◌, true, false, None, Ok, IfOk, IfSome, map};
+ghost use Rattle.std.specs.Prelude.{◌≡◌, Some, None, Ok, IfOk, map};
 ghost use Rattle.std.specs.List.{All};
 ghost use Rattle.mrc_facts.specs.Sets.{has};
 ghost use Rattle.mrc_model.specs.Rules.{IsLeast};
 ghost use Rattle.mrc_wiring.specs.Table.{wiring_of};
 ghost use Rattle.mrc_check.specs.Texts as meanings;
-ghost use Rattle.mrc_why.specs.Broken.{HasYes, line_of};
+ghost use Rattle.mrc_why.specs.Broken.{HasYes};
 ghost use Rattle.mrc_attack.specs.Attacks.{IsAttack, aim_of, aims};
-ghost use Rattle.mrc_answer.specs.Attacking.{AreAttacksOn};
+ghost use Rattle.mrc_answer.specs.Attacking.{AreAttacksOn, IsSearched};
+ghost use Rattle.mrc_answer.specs.Judging.{IsJudged, IsShownLine};
 ghost use Rattle.mrc_answer.specs.Notices.{AreNotices};
 ghost use Rattle.mrc_answer.specs.Texts as texts;
-ghost use Rattle.mrc_answer.specs.Verified.{IsAttacked, HasNoAttack, form_of, has_number};
+ghost use Rattle.mrc_answer.specs.Verified.{IsAttacked, HasNoAttack, form_of, searched};
 
 use crate::answers::{Answer, Attacked, Reply};
+use crate::demands::has_waived;
 use crate::files::Files;
 use crate::gathering::notices;
+use crate::judging::{Judgement, broken_reply, judged, passed_reply, waived_reply};
 use crate::notices::Notices;
-use crate::replies::{meaning_reply, unbroken_reply, yes_reply};
+use crate::replies::{meaning_reply, unbroken_reply};
 use mrc_attack::{Attack, Listing, Progress, attacks};
 use mrc_base::OrMemory;
-use mrc_check::Stated;
-use mrc_why::{Broken, Verdict, verify};
+use mrc_check::{Demand, Stated};
+use mrc_why::{Broken, Verdict, is_waived_line, line_in};
 use std::alloc::{AllocError, Global};
 
 /// A script is printed by itself if one line is asked for.
@@ -34,19 +37,45 @@ fn form_of(only: Option<u32>) -> Listing
     }
 }
 
-/// The number, if one of the lines has it.
-pub(crate) fn number_in(broken: &[Broken], number: usize) -> Option<u32>
-    ensures own { IfSome result (λ own. own ≡ number) }
-    ensures some { IfSome result (λ _. has_number (map line_of broken.now) number ≡ true) }
-    ensures none { result ≡ None → has_number (map line_of broken.now) number ≡ false }
+/// The broken lines that are not waived.
+fn unwaived(alloc: Global, told: &[Demand], broken: Vec<Broken>) -> Result<Vec<Broken>, AllocError>
+    ensures { IfOk result (λ left. left.items ≡ searched told.now broken.items) }
 {
+    let mut left = Vec::new(alloc);
     for line in broken {
-        let own = line.line().line;
-        if own as usize == number {
-            return Some(own);
+        if is_waived_line(told, line.line()) {
+            drop(line);
+        } else {
+            left.push(line)?;
         }
     }
-    None
+    Ok(left)
+}
+
+/// The verdict without the broken lines that are waived.
+fn searched(alloc: Global, told: &[Demand], verdict: Verdict) -> Result<Verdict, AllocError>
+    ensures { IfOk result (λ left. IsSearched told.now verdict left) }
+{
+    if has_waived(told) {
+        let Verdict {
+            facts,
+            exposed,
+            broken,
+        } = verdict;
+        match unwaived(alloc, told, broken) {
+            Ok(broken) => Ok(Verdict {
+                facts,
+                exposed,
+                broken,
+            }),
+            Err(error) => {
+                drop((facts, exposed));
+                Err(error)
+            }
+        }
+    } else {
+        Ok(verdict)
+    }
 }
 
 /// What is found by a verdict, of all or of one line, and what is told besides.
@@ -85,21 +114,28 @@ fn found_by<P: Progress>(
     }
 }
 
-/// What is answered of a verdict that is no yes: attacks on all that is objected to, or on one
-/// line.
+/// What is answered of a verdict that is no yes: attacks on all that is objected to and not waived,
+/// or on that of one line.
 fn attacks_reply<'a, P: Progress>(
     alloc: Global,
     files: &Files<'_>,
     stated: Stated,
-    verdict: Verdict,
+    found: Judgement,
     only: Option<u32>,
     most: usize,
     progress: &mut P,
 ) -> Result<Reply<'a>, AllocError>
-    requires { IsLeast (wiring_of stated.claim.table) (has verdict.facts) }
-    ensures { IfOk result
-        (AreAttacksOn only files.now stated verdict.exposed verdict.broken.items) }
+    requires { IsJudged stated found }
+    ensures { IfOk result (AreAttacksOn only files.now stated found) }
 {
+    let Judgement { verdict, told } = found;
+    let verdict = match searched(alloc, told.as_slice(), verdict) {
+        Ok(verdict) => verdict,
+        Err(error) => {
+            drop((stated, told));
+            return Err(error);
+        }
+    };
     let both = found_by(alloc, files, &stated, &verdict, only, most, progress);
     drop(verdict);
     match both {
@@ -108,14 +144,56 @@ fn attacks_reply<'a, P: Progress>(
                 stated,
                 only,
                 found,
+                told,
             }),
             notices,
         }),
         Err(error) => {
-            drop(stated);
+            drop((stated, told));
             Err(error)
         }
     }
+}
+
+/// What is answered of a system of which nothing is objected to, all of it: yes, what is waived, or
+/// what is expected and lacking.
+fn unattacked<'a>(
+    alloc: Global,
+    files: &Files<'_>,
+    stated: Stated,
+    found: Judgement,
+) -> Result<Reply<'a>, AllocError>
+    requires says { texts.stated files.now.texts ≡ Ok stated }
+    requires judged { IsJudged stated found }
+    ensures { IfOk result (λ reply. IsAttacked None files.now reply.answer reply.notices) }
+{
+    if !found.is_passed() {
+        return broken_reply(alloc, files, stated, found, None, None);
+    }
+    if found.told.is_empty() {
+        return passed_reply(alloc, files, stated, found);
+    }
+    waived_reply(alloc, files, stated, found, None, None)
+}
+
+/// The same of what is told of one line.
+fn unattacked_line<'a>(
+    alloc: Global,
+    files: &Files<'_>,
+    stated: Stated,
+    found: Judgement,
+    line: Option<usize>,
+    own: u32,
+) -> Result<Reply<'a>, AllocError>
+    requires says { texts.stated files.now.texts ≡ Ok stated }
+    requires judged { IsJudged stated found }
+    requires shown { IsShownLine line (Some own) found }
+    ensures { IfOk result (λ reply. IsAttacked line files.now reply.answer reply.notices) }
+{
+    if found.is_passed() {
+        return waived_reply(alloc, files, stated, found, line, Some(own));
+    }
+    broken_reply(alloc, files, stated, found, line, Some(own))
 }
 
 /// What is answered of attacks on files that mean this.
@@ -130,8 +208,8 @@ fn stated_attacked<'a, P: Progress>(
     requires { texts.stated files.now.texts ≡ Ok stated }
     ensures { IfOk result (λ reply. IsAttacked line files.now reply.answer reply.notices) }
 {
-    let verdict = match verify(alloc, &stated.claim) {
-        Ok(verdict) => verdict,
+    let found = match judged(alloc, &stated) {
+        Ok(found) => found,
         Err(error) => {
             drop(stated);
             return Err(error);
@@ -139,18 +217,22 @@ fn stated_attacked<'a, P: Progress>(
     };
     match line {
         None => {
-            if verdict.is_yes() {
-                let reply = yes_reply(alloc, files, stated, &verdict.facts);
-                drop(verdict);
-                reply
+            if found.verdict.is_yes() {
+                unattacked(alloc, files, stated, found)
             } else {
-                attacks_reply(alloc, files, stated, verdict, None, most, progress)
+                attacks_reply(alloc, files, stated, found, None, most, progress)
             }
         }
-        Some(number) => match number_in(verdict.broken.as_slice(), number) {
-            Some(own) => attacks_reply(alloc, files, stated, verdict, Some(own), most, progress),
+        Some(number) => match line_in(found.told.as_slice(), number) {
+            Some(own) => {
+                if found.verdict.is_yes() {
+                    unattacked_line(alloc, files, stated, found, line, own)
+                } else {
+                    attacks_reply(alloc, files, stated, found, Some(own), most, progress)
+                }
+            }
             None => {
-                drop((stated, verdict));
+                drop((stated, found));
                 Ok(unbroken_reply(alloc))
             }
         },
@@ -176,7 +258,7 @@ pub fn attacked<'a, P: Progress>(
         alloc,
         files.texts.defs.as_slice(),
         files.texts.wiring.as_slice(),
-        files.texts.policy(),
+        &files.texts.asked_policy(),
     ) {
         Ok(stated) => stated_attacked(alloc, files, stated, line, most, progress),
         Err(OrMemory::Fault(fault)) => Ok(meaning_reply(alloc, fault)),

@@ -35,7 +35,7 @@ pub(crate) fn answer_of<R: Threads + Sync>(
         alloc,
         texts.defs.as_slice(),
         texts.wiring.as_slice(),
-        texts.policy(),
+        &texts.asked_policy(),
         texts.certificate(),
     )
 }

@@ -5,8 +5,9 @@ ghost use Rattle.std.specs.List.{All};
 ghost use Rattle.std.specs.Option.{option_map};
 ghost use Rattle.mrc_files.specs.Files.{AreHeld, Exceeds, Fits, IsFirstUnread};
 ghost use Rattle.mrc_answer.specs.Files.{given, word_of, names_if_given, all_names, IsHeld};
-ghost use Rattle.mrc_answer.specs.Files.{AreRead};
+ghost use Rattle.mrc_answer.specs.Files.{asked_policy, AreRead};
 
+use mrc_check::PolicyText;
 use mrc_command::FileNames;
 use mrc_files::{Folder, InputFault, Unread, bytes_of, bytes_of_all};
 use std::alloc::Global;
@@ -18,6 +19,8 @@ pub struct Texts {
     pub defs: Vec<Vec<u8>>,
     pub wiring: Vec<u8>,
     pub policy: Option<Vec<u8>>,
+    /// Whether what the policy waives is let pass.
+    pub waives: bool,
     pub certificate: Option<Vec<u8>>,
     pub script: Option<Vec<u8>>,
 }
@@ -33,6 +36,7 @@ impl Model for Texts {
       defs = map (λ text. text.items) t.defs.items;
       wiring = t.wiring.items;
       policy = option_map (λ text. text.items) t.policy;
+      waives = t.waives;
       certificate = option_map (λ text. text.items) t.certificate;
       script = option_map (λ text. text.items) t.script;
     } };
@@ -69,6 +73,16 @@ impl Texts {
         ensures { result.now ≡ given self.now.policy }
     {
         given(&self.policy)
+    }
+
+    /// The policy as it is asked for.
+    pub fn asked_policy(&self) -> PolicyText<'_>
+        ensures { result ≡ asked_policy self.now }
+    {
+        PolicyText {
+            bytes: self.policy(),
+            waives: self.waives,
+        }
     }
 
     /// The bytes of the certificate: none, if it is not given.
@@ -131,6 +145,7 @@ pub fn texts_of<'a, F: Folder>(
         defs,
         wiring,
         policy,
+        waives: names.waives,
         certificate,
         script,
     })

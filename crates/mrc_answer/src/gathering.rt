@@ -1,13 +1,15 @@
 //! What is told besides an answer, gathered of files.
 
-ghost use Rattle.std.specs.Prelude.{◌≡◌, ◌++◌, [], ◌∷◌, map, IfOk, OnOk, Some, string_bytes};
+ghost use Rattle.std.specs.Prelude.{◌≡◌, ◌&&◌, ◌++◌, [], ◌∷◌, not, map, IfOk, OnOk, Some};
+ghost use Rattle.std.specs.Prelude.{string_bytes};
 ghost use Rattle.std.specs.Option.{option_map};
 ghost use Rattle.mrc_facts.specs.Sets.{has};
 ghost use Rattle.mrc_model.specs.Rules.{IsLeast};
 ghost use Rattle.mrc_wiring.specs.Table.{wiring_of};
 ghost use Rattle.mrc_words.specs.Words.{task_word};
 ghost use Rattle.mrc_interface.specs.Left.{carriers, is_old_cut};
-ghost use Rattle.mrc_answer.specs.Notices.{AreNotices, AreYesNotices, notices_of, is_empty};
+ghost use Rattle.mrc_answer.specs.Notices.{AreNotices, AreWaivedNotices, AreYesNotices};
+ghost use Rattle.mrc_answer.specs.Notices.{notices_from, notices_of, is_empty};
 ghost use Rattle.mrc_answer.specs.Files.{given};
 ghost use Rattle.mrc_answer.specs.PlainLines as definitions;
 ghost use Rattle.mrc_answer.specs.Notices.{left_out, number_if, cut_before};
@@ -15,9 +17,10 @@ ghost use Rattle.mrc_answer.specs.Notices.{left_out_alone, left_out_and_trusted}
 ghost use Rattle.mrc_answer.specs.Notices.{is_notification, notification_in, notification_from};
 ghost use Rattle.mrc_answer.specs.Notices.{is_trusted, name_if, trusted_names};
 
+use crate::demands::{demand_notices, expected_facts};
 use crate::files::Files;
 use crate::leaky_lines::leaky_lines;
-use crate::notices::{Notices, Notification};
+use crate::notices::{DemandNotices, Notices, Notification};
 use crate::plain_lines::{PlainLine, plain_lines};
 use mrc_base::TaskId;
 use mrc_check::Stated;
@@ -162,11 +165,11 @@ fn trusted_names(alloc: Global, wired: &Wired) -> Result<Vec<String>, AllocError
     Ok(names)
 }
 
-/// Whether no line forbids anything.
-fn is_empty(lines: &[ForbiddenLine]) -> bool
-    ensures { result ≡ is_empty lines.now }
+/// Whether no line forbids anything, and nothing is waived.
+fn is_empty_policy(lines: &[ForbiddenLine], waives: bool) -> bool
+    ensures { result ≡ (is_empty lines.now && not waives) }
 {
-    lines.is_empty()
+    lines.is_empty() && !waives
 }
 
 /// Of each MIG file of these, the routines that may carry rights and are left out.
@@ -197,19 +200,21 @@ fn plain_lines_of(
     plain_lines(alloc, wired, files.texts.policy())
 }
 
-/// What is told of files, these lines of their wiring and their claim by these facts, besides an
-/// answer with which these tasks are told as trusted.
+/// What is told of files, these lines of their wiring, their claim and what the policy demands by
+/// these facts, besides an answer with which these tasks are told as trusted.
 fn notices_by(
     alloc: Global,
     files: &Files<'_>,
     lines: &[WiringLine],
     claim: &Claim,
+    demands: DemandNotices,
     facts: &Facts,
     trusted: Vec<String>,
 ) -> Result<Notices, AllocError>
     ensures { IfOk result (λ notices. notices
-        ≡ record (notices_of files.now (record { lines = lines.now; claim = claim.now })
-        (has facts.now)) { trusted = map string_bytes trusted.items }) }
+        ≡ record (notices_from files.now lines.now claim.now demands (has facts.now)) {
+          trusted = map string_bytes trusted.items;
+        }) }
 {
     let wired = claim.wired();
     let left_out = left_out_of(alloc, files)?;
@@ -222,7 +227,8 @@ fn notices_by(
         left_out,
         cut_before,
         notification,
-        is_empty_policy: is_empty(claim.lines()),
+        is_empty_policy: is_empty_policy(claim.lines(), demands.waives),
+        demands,
         plain,
         leaky,
         dead,
@@ -244,8 +250,9 @@ fn notices_with(
           trusted = map string_bytes trusted.items;
         }) }
 {
+    let demands = demand_notices(alloc, stated, facts)?;
     let lines = stated.lines.as_slice();
-    notices_by(alloc, files, lines, &stated.claim, facts, trusted)
+    notices_by(alloc, files, lines, &stated.claim, demands, facts, trusted)
 }
 
 /// What is told besides a no of files and what they mean, by the least set of its wiring.
@@ -265,8 +272,13 @@ pub(crate) fn notices(
 fn into_wired(stated: Stated) -> Wired
     ensures { result ≡ stated.claim.table }
 {
-    let Stated { lines, claim } = stated;
-    drop(lines);
+    let Stated {
+        lines,
+        claim,
+        stands,
+        demands,
+    } = stated;
+    drop((lines, stands, demands));
     claim.into_wired()
 }
 
@@ -279,6 +291,7 @@ fn with_wired(notices: Notices, wired: Wired) -> Notices
         cut_before,
         notification,
         is_empty_policy,
+        demands,
         plain,
         leaky,
         dead,
@@ -291,6 +304,7 @@ fn with_wired(notices: Notices, wired: Wired) -> Notices
         cut_before,
         notification,
         is_empty_policy,
+        demands,
         plain,
         leaky,
         dead,
@@ -313,6 +327,19 @@ fn trusted_notices(
 {
     let trusted = trusted_names(alloc, stated.claim.wired())?;
     notices_with(alloc, files, stated, facts, trusted)
+}
+
+/// What is told besides a yes that waives, by the least set of its wiring.
+pub(crate) fn waived_notices(
+    alloc: Global,
+    files: &Files<'_>,
+    stated: &Stated,
+    facts: &Facts,
+) -> Result<Notices, AllocError>
+    requires { IsLeast (wiring_of stated.now.claim.table) (has facts.now) }
+    ensures { IfOk result (AreWaivedNotices files.now stated.now) }
+{
+    trusted_notices(alloc, files, stated, facts)
 }
 
 /// What is told besides a yes of files and what they mean, by the least set of its wiring.
@@ -346,11 +373,18 @@ fn check_notices(
 {
     let left_out = left_out_of(alloc, files)?;
     let cut_before = cut_before_of(alloc, files)?;
+    let unjudged = expected_facts(alloc, &files.texts)?;
     Ok(Notices {
         left_out,
         cut_before,
         notification: None,
         is_empty_policy: false,
+        demands: DemandNotices {
+            waives: false,
+            expects_nothing: false,
+            idle: Vec::new(alloc),
+            unjudged,
+        },
         plain: Vec::new(alloc),
         leaky: Vec::new(alloc),
         dead: DeadParts::none(alloc),

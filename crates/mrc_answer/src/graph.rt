@@ -5,7 +5,7 @@ ghost use Rattle.std.specs.Prelude.{filter, map};
 ghost use Rattle.std.specs.Option.{option_map};
 ghost use Rattle.mrc_answer.specs.Drawings.{IsFound};
 ghost use Rattle.mrc_answer.specs.Files.{word_of};
-ghost use Rattle.mrc_answer.specs.Listed.{claim_given, claimed, IsOfChain, IsGraph};
+ghost use Rattle.mrc_answer.specs.Listed.{claim_given, claimed, without_policy, IsOfChain, IsGraph};
 ghost use Rattle.mrc_check.specs.Texts.{meaningless};
 ghost use Rattle.mrc_closure.specs.Chains.{IsChain};
 ghost use Rattle.mrc_closure.specs.declared.chains.Step.{Step};
@@ -20,10 +20,12 @@ use crate::faults::{Fault, WordFault};
 use crate::files::{Files, Texts};
 use crate::given::facts_given;
 use mrc_base::{Fact, OrMemory};
-use mrc_check::{CaseFault, PolicyFault, Stated, System};
+use mrc_check::{CaseFault, Stated, System};
 use mrc_draw::{Filter, drawn_facts, filter_of, set_of};
 use mrc_rows::Facts;
+use mrc_stand_for::Several;
 use mrc_why::{Derivations, Step};
+use mrc_wide_policy::PolicyStands;
 use mrc_wiring::{Claim, Wired};
 use mrc_words::fact_named;
 use std::alloc::{AllocError, Global};
@@ -156,9 +158,9 @@ fn found_of(
     }
 }
 
-/// The system with what no policy forbids in it: nothing.
-fn without_policy(alloc: Global, system: System) -> Result<Stated, OrMemory<CaseFault>>
-    ensures { GivesAs (λ stated. stated) meaningless result (claim_given None system) }
+/// The system of which nothing is demanded.
+fn without_policy(alloc: Global, system: System) -> Stated
+    ensures { result ≡ without_policy system }
 {
     let System {
         lines,
@@ -166,11 +168,15 @@ fn without_policy(alloc: Global, system: System) -> Result<Stated, OrMemory<Case
         wired,
     } = system;
     drop(known);
-    match Claim::new(alloc, wired, &[]) {
-        Ok(claim) => Ok(Stated { lines, claim }),
-        Err((_, refusal)) => {
-            Err(refusal.map_fault(|fault| CaseFault::Policy(PolicyFault::Lines(fault))))
-        }
+    Stated {
+        lines,
+        claim: Claim::over(wired, Vec::new(alloc)),
+        stands: PolicyStands {
+            is_wide: false,
+            lines: Several::empty(alloc),
+            waived: Several::empty(alloc),
+        },
+        demands: Vec::new(alloc),
     }
 }
 
@@ -178,15 +184,16 @@ fn without_policy(alloc: Global, system: System) -> Result<Stated, OrMemory<Case
 fn claim_given(
     alloc: Global,
     policy: &Option<Vec<u8>>,
+    texts: &Texts,
     system: System,
 ) -> Result<Stated, OrMemory<CaseFault>>
     ensures { GivesAs (λ stated. stated) meaningless result
-        (claim_given (option_map (λ bytes. bytes.items) policy.now) system) }
+        (claim_given (option_map (λ bytes. bytes.items) policy.now) texts.now system) }
 {
-    let Some(policy) = policy else {
-        return without_policy(alloc, system);
+    let Some(_policy) = policy else {
+        return Ok(without_policy(alloc, system));
     };
-    match system.claim(alloc, policy.as_slice()) {
+    match system.claim(alloc, &texts.asked_policy()) {
         Ok(stated) => Ok(stated),
         Err((_, refusal)) => Err(refusal),
     }
@@ -198,7 +205,7 @@ fn claimed(alloc: Global, texts: &Texts) -> Result<Stated, OrMemory<CaseFault>>
     ensures { GivesAs (λ stated. stated) meaningless result (claimed texts.now) }
 {
     let system = System::read(alloc, texts.defs.as_slice(), texts.wiring.as_slice())?;
-    claim_given(alloc, &texts.policy, system)
+    claim_given(alloc, &texts.policy, texts, system)
 }
 
 /// What is drawn: facts, or the chain of a fact that is given; of the holds of a task, if its name

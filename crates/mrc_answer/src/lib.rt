@@ -6,6 +6,7 @@ mod answers;
 mod asking;
 mod attack;
 mod check;
+mod demands;
 mod explain;
 mod facts;
 mod faults;
@@ -13,6 +14,7 @@ mod files;
 mod gathering;
 mod given;
 mod graph;
+mod judging;
 pub mod laws;
 mod leaky_lines;
 mod live;
@@ -31,7 +33,7 @@ mod verify;
 mod writing;
 
 pub use answers::{
-    Answer, Attacked, BrokenPolicy, Drawing, Expanded, Explained, Listed, MigEnd, MigText,
+    Answer, Attacked, Drawing, Expanded, Explained, JudgedPolicy, Listed, MigEnd, MigText,
     MigTexts, Reply, Underived, Undrawn, Waiting, WiredScript, status_of,
 };
 pub use asking::{Answered, WasRead, answer};
@@ -48,7 +50,7 @@ pub use make::made;
 pub use mend::mended;
 pub use message::turned;
 pub use mig::{Ready, mig_files};
-pub use notices::{Notices, Notification};
+pub use notices::{DemandNotices, Notices, Notification};
 pub use plain_lines::PlainLine;
 pub use replay::replayed;
 pub use systems::{expanded, promises, slots};

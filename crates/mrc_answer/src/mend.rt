@@ -2,43 +2,47 @@
 
 ghost use Rattle.std.specs.Prelude.{Some, false, IfOk, IsTrue};
 ghost use Rattle.mrc_answer.specs.Made.{IsMending};
-ghost use Rattle.mrc_answer.specs.Verified.{IsBrokenAt, IsNotBroken};
+ghost use Rattle.mrc_answer.specs.Verified.{IsToldAt, IsNotBroken};
 
 use crate::answers::Answer;
-use crate::attack::number_in;
 use crate::faults::{Fault, WordFault};
 use crate::files::Files;
+use crate::judging::judged;
 use mrc_base::OrMemory;
 use mrc_check::Stated;
 use mrc_mend::{Progress, find_mends};
-use mrc_why::verify;
-use mrc_wiring::Claim;
+use mrc_why::line_in;
 use std::alloc::{AllocError, Global};
 
-/// Whether the policy of the claim is broken, but not in its line of this number.
-fn is_unbroken_of(alloc: Global, claim: &Claim, number: usize) -> Result<bool, AllocError>
-    ensures { IfOk result (λ r. IsTrue r → IsBrokenAt claim.now number false) }
+/// Whether something is told of a system, but nothing of the policy's line of this number.
+fn is_untold_of(alloc: Global, stated: &Stated, number: usize) -> Result<bool, AllocError>
+    ensures { IfOk result (λ r. IsTrue r → IsToldAt stated.now number false) }
 {
-    let verdict = verify(alloc, claim)?;
-    let is_unbroken = !verdict.is_yes() && number_in(&verdict.broken, number).is_none();
-    drop(verdict);
-    Ok(is_unbroken)
+    let found = judged(alloc, stated)?;
+    if found.is_passed() {
+        return Ok(false);
+    }
+    match line_in(found.told.as_slice(), number) {
+        Some(_) => Ok(false),
+        None => Ok(true),
+    }
 }
 
-/// Whether the files have a meaning, and the policy is broken, but not in its line of this number.
-fn is_unbroken(alloc: Global, files: &Files<'_>, number: usize) -> Result<bool, AllocError>
+/// Whether the files have a meaning of which something is told, but nothing of the policy's line of
+/// this number.
+fn is_untold(alloc: Global, files: &Files<'_>, number: usize) -> Result<bool, AllocError>
     ensures { IfOk result (λ r. IsTrue r → IsNotBroken (Some number) files.now) }
 {
     match Stated::read(
         alloc,
         files.texts.defs.as_slice(),
         files.texts.wiring.as_slice(),
-        files.texts.policy(),
+        &files.texts.asked_policy(),
     ) {
         Ok(stated) => {
-            let is_unbroken = is_unbroken_of(alloc, &stated.claim, number);
+            let is_untold = is_untold_of(alloc, &stated, number);
             drop(stated);
-            is_unbroken
+            is_untold
         }
         Err(OrMemory::Fault(fault)) => {
             drop(fault);
@@ -58,12 +62,12 @@ fn mends<'a, P: Progress>(
 ) -> Result<Answer<'a>, AllocError>
     ensures { IfOk result (IsMending line most files.now) }
 {
-    let policy = files.texts.policy();
+    let policy = files.texts.asked_policy();
     match find_mends(
         alloc,
         files.texts.defs.as_slice(),
         files.texts.wiring.as_slice(),
-        policy,
+        &policy,
         line,
         most,
         progress,
@@ -74,8 +78,8 @@ fn mends<'a, P: Progress>(
     }
 }
 
-/// Mends of a wiring, so many at most; with `line` of this line of the policy alone, if it is
-/// broken.
+/// Mends of a wiring, so many at most; with `line` of this line of the policy alone, if
+/// something is told of it.
 pub fn mended<'a, P: Progress>(
     alloc: Global,
     files: &Files<'_>,
@@ -86,7 +90,7 @@ pub fn mended<'a, P: Progress>(
     ensures right { IfOk result (IsMending line most files.now) }
 {
     if let Some(number) = line {
-        if is_unbroken(alloc, files, number)? {
+        if is_untold(alloc, files, number)? {
             return Ok(Answer::Fault(Fault::Word(WordFault::NotBroken)));
         }
     }

@@ -1,7 +1,7 @@
 //! What is told besides an answer, as values.
 
 ghost use Rattle.std.specs.Prelude.{◌≡◌};
-ghost use Rattle.mrc_answer.specs.Notices.{no_notices};
+ghost use Rattle.mrc_answer.specs.Notices.{no_demand_notices, no_notices};
 
 use crate::leaky_lines::LeakyLine;
 use crate::plain_lines::PlainLine;
@@ -28,6 +28,46 @@ impl Model for Notification {
     ghost view = { λ n. record { file = n.file; routine = string_bytes n.routine } };
 }
 
+/// What is told of a policy of version 3.
+#[derive(Drop)]
+pub struct DemandNotices {
+    /// Whether it waives something, so that it forbids something.
+    pub waives: bool,
+    /// Whether it expects nothing.
+    pub expects_nothing: bool,
+    /// The numbers of its lines that waive nothing.
+    pub idle: Vec<u32>,
+    /// Besides the answer to a certificate: how many facts it expects, which are not judged.
+    pub unjudged: usize,
+}
+
+impl Model for DemandNotices {
+    ghost use Rattle.mrc_answer.specs.Notices as definitions;
+
+    ghost Value = { definitions.DemandNotices };
+
+    ghost view = { λ d. record {
+      waives = d.waives;
+      expects_nothing = d.expects_nothing;
+      idle = d.idle.items;
+      unjudged = d.unjudged;
+    } };
+}
+
+impl DemandNotices {
+    /// Nothing is told.
+    pub(crate) fn none(alloc: Global) -> DemandNotices
+        ensures { result ≡ no_demand_notices }
+    {
+        DemandNotices {
+            waives: false,
+            expects_nothing: false,
+            idle: Vec::new(alloc),
+            unjudged: 0,
+        }
+    }
+}
+
 /// What is told besides an answer of what is easily overlooked.
 #[derive(Drop)]
 pub struct Notices {
@@ -38,8 +78,10 @@ pub struct Notices {
     /// The first MIG file that has a routine of notifications of no senders or of dead names, of
     /// which the model has none.
     pub notification: Option<Notification>,
-    /// Whether the policy forbids nothing.
+    /// Whether the policy forbids nothing, not even what it waives.
     pub is_empty_policy: bool,
+    /// What is told of a policy of version 3.
+    pub demands: DemandNotices,
     /// The lines of the policy that name births without a kind, of a task with births of further
     /// kinds.
     pub plain: Vec<PlainLine>,
@@ -67,6 +109,7 @@ impl Model for Notices {
       cut_before = n.cut_before.items;
       notification = n.notification;
       is_empty_policy = n.is_empty_policy;
+      demands = n.demands;
       plain = n.plain.items;
       leaky = n.leaky.items;
       dead = n.dead;
@@ -84,6 +127,7 @@ pub(crate) fn no_notices(alloc: Global) -> Notices
         cut_before: Vec::new(alloc),
         notification: None,
         is_empty_policy: false,
+        demands: DemandNotices::none(alloc),
         plain: Vec::new(alloc),
         leaky: Vec::new(alloc),
         dead: DeadParts::none(alloc),

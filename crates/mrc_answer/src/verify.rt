@@ -1,61 +1,55 @@
 //! What `verify` answers of a wiring and a policy.
 
-ghost use Rattle.std.specs.Prelude.{◌≡◌, Ok, IfOk};
-ghost use Rattle.mrc_facts.specs.Sets.{has};
-ghost use Rattle.mrc_model.specs.Rules.{IsLeast};
-ghost use Rattle.mrc_wiring.specs.Table.{wiring_of};
+ghost use Rattle.std.specs.Prelude.{◌≡◌, [], true, Ok, IfOk};
 ghost use Rattle.mrc_check.specs.Texts as meanings;
+ghost use Rattle.mrc_why.specs.Answered.{AreTold};
 ghost use Rattle.mrc_why.specs.Broken.{HasYes};
-ghost use Rattle.mrc_answer.specs.Notices.{AreNotices};
+ghost use Rattle.mrc_answer.specs.Judging.{IsJudged, is_passed};
 ghost use Rattle.mrc_answer.specs.Texts as texts;
 ghost use Rattle.mrc_answer.specs.Verified.{IsVerified};
 ghost use Rattle.mrc_answer.specs.declared.answers.Answer.TheVariants as answers;
 
-use crate::answers::{Answer, BrokenPolicy, Reply};
-use crate::attack::number_in;
+use crate::answers::Reply;
 use crate::files::Files;
-use crate::gathering::notices;
-use crate::replies::{meaning_reply, unbroken_reply, yes_reply};
+use crate::judging::{Judgement, broken_reply, judged, passed_reply, waived_reply};
+use crate::replies::{meaning_reply, unbroken_reply};
 use mrc_base::OrMemory;
 use mrc_check::Stated;
-use mrc_why::{Verdict, verify};
+use mrc_why::line_in;
 use std::alloc::{AllocError, Global};
 
-/// What is answered of a verdict that is no yes: of all that is objected to, or of one line.
-fn broken_reply<'a>(
+/// What is answered of a system that is passed: a yes, and what is waived, of all lines or of one.
+fn passed<'a>(
     alloc: Global,
     files: &Files<'_>,
     stated: Stated,
-    verdict: Verdict,
-    only: Option<u32>,
+    found: Judgement,
+    line: Option<usize>,
 ) -> Result<Reply<'a>, AllocError>
-    requires { IsLeast (wiring_of stated.claim.table) (has verdict.facts) }
-    ensures answer { IfOk result (λ reply. reply.answer ≡ answers.Broken record {
-      stated = stated;
-      verdict = verdict;
-      only = only;
-    }) }
-    ensures notices { IfOk result (λ reply.
-        AreNotices files.now stated reply.notices) }
+    requires says { texts.stated files.now.texts ≡ Ok stated }
+    requires judged { IsJudged stated found }
+    requires passed { is_passed found ≡ true }
+    ensures right { IfOk result (λ reply.
+        IsVerified line files.now reply.answer reply.notices) }
+    ensures only { found.told.items ≡ [] → IfOk result (λ reply. reply.answer ≡ answers.Yes) }
 {
-    match notices(alloc, files, &stated, &verdict.facts) {
-        Ok(notices) => Ok(Reply {
-            answer: Answer::Broken(BrokenPolicy {
-                stated,
-                verdict,
-                only,
-            }),
-            notices,
-        }),
-        Err(error) => {
-            drop((stated, verdict));
-            Err(error)
+    match line {
+        None => {
+            if found.told.is_empty() {
+                passed_reply(alloc, files, stated, found)
+            } else {
+                waived_reply(alloc, files, stated, found, None, None)
+            }
         }
+        Some(number) => match line_in(found.told.as_slice(), number) {
+            Some(own) => waived_reply(alloc, files, stated, found, line, Some(own)),
+            None => passed_reply(alloc, files, stated, found),
+        },
     }
 }
 
 /// What is answered of files that mean this: yes, or the trusted task that another could rewrite
-/// and the lines that are broken.
+/// and the demands of the policy that are told.
 fn stated_verified<'a>(
     alloc: Global,
     files: &Files<'_>,
@@ -65,26 +59,25 @@ fn stated_verified<'a>(
     requires { texts.stated files.now.texts ≡ Ok stated }
     ensures right { IfOk result (λ reply.
         IsVerified line files.now reply.answer reply.notices) }
-    ensures only { HasYes stated.claim → IfOk result (λ reply. reply.answer ≡ answers.Yes) }
+    ensures only { HasYes stated.claim → AreTold stated []
+        → IfOk result (λ reply. reply.answer ≡ answers.Yes) }
 {
-    let verdict = match verify(alloc, &stated.claim) {
-        Ok(verdict) => verdict,
+    let found = match judged(alloc, &stated) {
+        Ok(found) => found,
         Err(error) => {
             drop(stated);
             return Err(error);
         }
     };
-    if verdict.is_yes() {
-        let reply = yes_reply(alloc, files, stated, &verdict.facts);
-        drop(verdict);
-        return reply;
+    if found.is_passed() {
+        return passed(alloc, files, stated, found, line);
     }
     match line {
-        None => broken_reply(alloc, files, stated, verdict, None),
-        Some(number) => match number_in(verdict.broken.as_slice(), number) {
-            Some(own) => broken_reply(alloc, files, stated, verdict, Some(own)),
+        None => broken_reply(alloc, files, stated, found, None, None),
+        Some(number) => match line_in(found.told.as_slice(), number) {
+            Some(own) => broken_reply(alloc, files, stated, found, line, Some(own)),
             None => {
-                drop((stated, verdict));
+                drop((stated, found));
                 Ok(unbroken_reply(alloc))
             }
         },
@@ -92,7 +85,7 @@ fn stated_verified<'a>(
 }
 
 /// What is answered of a wiring and a policy: yes, or the trusted task that another could rewrite
-/// and the lines that are broken; with `line` only if the line of this number is.
+/// and what is told of the policy's demands; with `line` only of the line of this number.
 pub fn verified<'a>(
     alloc: Global,
     files: &Files<'_>,
@@ -100,15 +93,17 @@ pub fn verified<'a>(
 ) -> Result<Reply<'a>, AllocError>
     ensures right { IfOk result (λ reply.
         IsVerified line files.now reply.answer reply.notices) }
-    // If the least set is a yes, that is answered, unless memory runs out.
+    // If the least set is a yes, and nothing is told of the policy's demands, that is answered,
+    // unless memory runs out.
     ensures only { (meant : meanings.Stated) → texts.stated files.now.texts ≡ Ok meant
-        → HasYes meant.claim → IfOk result (λ reply. reply.answer ≡ answers.Yes) }
+        → HasYes meant.claim → AreTold meant []
+        → IfOk result (λ reply. reply.answer ≡ answers.Yes) }
 {
     match Stated::read(
         alloc,
         files.texts.defs.as_slice(),
         files.texts.wiring.as_slice(),
-        files.texts.policy(),
+        &files.texts.asked_policy(),
     ) {
         Ok(stated) => stated_verified(alloc, files, stated, line),
         Err(OrMemory::Fault(fault)) => Ok(meaning_reply(alloc, fault)),

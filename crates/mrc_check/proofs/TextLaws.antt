@@ -7,15 +7,16 @@ use Rattle.mrc_base.specs.Reading.{◌>>=◌}
 use Rattle.mrc_base.proofs.Steps.{bind_ok, bind_to, ok_is, err_is_ok}
 use Rattle.mrc_interface.specs.Reading.{interfaces_of, step}
 use Rattle.mrc_interface.proofs.ReadingLaws.{interfaces_read, read_interfaces_are}
-use Rattle.mrc_wiring_text.specs.Policy.{policy_of, policy_says}
-use Rattle.mrc_wiring_text.proofs.TextLaws.{text_found, text_read}
 use Rattle.mrc_stand_for.specs.declared.faults.StandFault.{StandFault}
 use Rattle.mrc_stand_for.specs.declared.known.Known.{Known}
-use Rattle.mrc_stand_for.specs.Policies.{policy_lines}
 use Rattle.mrc_wide_text.specs.Wirings.{Says, said_of}
 use Rattle.mrc_wide_text.proofs.SaidLaws.{said_is, is_said}
+use Rattle.mrc_wide_policy.specs.Asked.{asked_by}
+use Rattle.mrc_wide_policy.specs.Policies.{stands_of}
+use Rattle.mrc_wide_policy.proofs.StandLemmas.{stands_are, are_stands}
+use Rattle.mrc_wiring.specs.declared.claim.ForbiddenLine.{ForbiddenLine}
 use Rattle.mrc_wiring.specs.Resolving.{resolved}
-use Rattle.mrc_wiring.specs.Claims.{Claimed, forbidden_lines}
+use Rattle.mrc_wiring.specs.Claims.{Claimed}
 use Rattle.mrc_certificate.specs.Spelling.{content}
 use Rattle.mrc_certificate.specs.Reading.{draft_from}
 use Rattle.mrc_certificate.proofs.Fields.{IsBytes}
@@ -24,11 +25,12 @@ use Rattle.mrc_check.specs.declared.faults.WiringFault.TheVariants as wiring_fau
 use Rattle.mrc_check.specs.declared.faults.PolicyFault.TheVariants as policy_fault
 use Rattle.mrc_check.specs.declared.texts.TextsFault.{TextsFault}
 use Rattle.mrc_check.specs.declared.texts.TextsFault.TheVariants.{Meaning, Check}
+use Rattle.mrc_check.specs.Demands.{demands_of, forbidden_in}
 use Rattle.mrc_check.specs.Verdict.{Case, IsAccepted}
 use Rattle.mrc_check.specs.Texts.{InDefs, InWiring, InPolicy, InCertificate, SayYes}
 use Rattle.mrc_check.specs.Texts.{Meant, MeanSystem, MeanClaim, Stated, meaningless, lines_fault}
-use Rattle.mrc_check.specs.Texts.{all_said, system_over, system_of, policy_over, claim_of}
-use Rattle.mrc_check.specs.Texts.{stated_by, stated_of}
+use Rattle.mrc_check.specs.Texts.{all_said, system_over, system_of, policy_over, policy_fault_of}
+use Rattle.mrc_check.specs.Texts.{Policy, Demanded, demanded_by, with_demands, stated_by, stated_of}
 use Rattle.mrc_check.specs.Texts.{answered_by, case_of, IsTold, Tells}
 use Rattle.mrc_check.proofs.Accepted.{no_reason}
 
@@ -80,52 +82,73 @@ system_to defs wiring system m =
     (resolved m.edition m.interfaces system.lines) _ m.is_table)
 
 -- the claim that texts have is one that they mean
-pub claim_meant : (defs : List (List ℕ)) (wiring policy : List ℕ) (stated : Stated)
+pub claim_meant : (defs : List (List ℕ)) (wiring : List ℕ) (policy : Policy) (stated : Stated)
     → stated_of defs wiring policy ≡ Ok stated
     → MeanClaim defs wiring policy stated.claim
 claim_meant defs wiring policy stated e =
     let s = bind_ok (system_of defs wiring) _ stated e in
-    let c = bind_ok (step InPolicy (claim_of s.0.known s.0.table policy)) _ stated s.2 in
-    let claim_is = step_ok InPolicy (claim_of s.0.known s.0.table policy) c.0 c.1 in
-    let p = bind_ok (policy_over s.0.known policy) _ c.0 claim_is in
-    let q = bind_ok (step policy_fault.Text (policy_of policy)) _ p.0 p.1 in
-    let stood : policy_lines s.0.known q.0 ≡ p.0 = ok_is (policy_lines s.0.known q.0) p.0 q.2 in
-    let l = bind_ok (step policy_fault.Lines (forbidden_lines s.0.table p.0)) _ c.0 p.2 in
-    let claim : Claimed = record { table = s.0.table; lines = l.0 } in
-    let made : Stated = record { lines = s.0.lines; claim = c.0 } in
-    let same : claim ≡ stated.claim =
-    ok_is claim c.0 l.2 ∙ ap (λ (x : Stated). x.claim) (ok_is made stated c.2)
+    let made_by = demanded_by s.0.known s.0.table policy.bytes in
+    let d = bind_ok (step InPolicy made_by) _ stated s.2 in
+    let made_is = step_ok InPolicy made_by d.0 d.1 in
+    let p = bind_ok (policy_over s.0.known policy.bytes) _ d.0 made_is in
+    let is_policy = step_ok policy_fault_of (stands_of s.0.known policy.bytes) p.0 p.1 in
+    let named = demands_of s.0.table (asked_by p.0) in
+    let l = bind_ok (step policy_fault.Lines named) _ d.0 p.2 in
+    let made : Demanded = record { stands = p.0; demands = l.0 } in
+    let same : with_demands s.0 policy.waives made ≡ stated =
+    ap (with_demands s.0 policy.waives) (ok_is made d.0 l.2)
+    ∙ ok_is (with_demands s.0 policy.waives d.0) stated d.2
     in
-    let is_policy = step_ok policy_fault.Text (policy_of policy) q.0 q.1 in
-    subst (MeanClaim defs wiring policy) same record {
+    subst (λ (x : Stated). MeanClaim defs wiring policy x.claim) same record {
       lines = s.0.lines;
       known = s.0.known;
       system = system_from defs wiring s.0 s.1;
-      says = q.0;
-      is_policy = text_found _ policy_says policy q.0 is_policy;
-      is_claim = ap (forbidden_lines s.0.table) stood
-          ∙ step_ok policy_fault.Lines (forbidden_lines s.0.table p.0) l.0 l.1;
+      stands = p.0;
+      is_policy = stands_are s.0.known policy.bytes p.0 is_policy;
+      demands = l.0;
+      are_demands = step_ok policy_fault.Lines named l.0 l.1;
+      is_claim = refl;
     }
 
+-- what is forbidden is what is demanded so
+pub lines_stated : (defs : List (List ℕ)) (wiring : List ℕ) (policy : Policy) (stated : Stated)
+    → stated_of defs wiring policy ≡ Ok stated
+    → stated.claim.lines ≡ forbidden_in policy.waives stated.demands
+lines_stated defs wiring policy stated e =
+    let s = bind_ok (system_of defs wiring) _ stated e in
+    let d = bind_ok (step InPolicy (demanded_by s.0.known s.0.table policy.bytes)) _ stated s.2 in
+    subst (λ (x : Stated). x.claim.lines ≡ forbidden_in policy.waives x.demands)
+    (ok_is (with_demands s.0 policy.waives d.0) stated d.2) refl
+
 -- and one that they mean is theirs
-stated_to : (defs : List (List ℕ)) (wiring policy : List ℕ) (claim : Claimed)
+stated_to : (defs : List (List ℕ)) (wiring : List ℕ) (policy : Policy) (claim : Claimed)
     (m : MeanClaim defs wiring policy claim)
-    → stated_of defs wiring policy ≡ Ok record { lines = m.lines; claim = claim }
+    → stated_of defs wiring policy
+    ≡ Ok record { lines = m.lines; claim = claim; stands = m.stands; demands = m.demands }
 stated_to defs wiring policy claim m =
     let system : Meant = record { lines = m.lines; known = m.known; table = claim.table } in
-    let read_policy = text_read _ policy_says policy m.says m.is_policy in
-    let stood : policy_over m.known policy ≡ Ok (policy_lines m.known m.says) =
-    goes_on policy_fault.Text m.says (policy_of policy) _ read_policy in
-    let claim_is : claim_of m.known claim.table policy ≡ Ok claim =
-    bind_to (policy_over m.known policy) (policy_lines m.known m.says) _ _ stood
-    (goes_on policy_fault.Lines claim.lines _ _ m.is_claim)
+    let made : Demanded = record { stands = m.stands; demands = m.demands } in
+    let stood : policy_over m.known policy.bytes ≡ Ok m.stands =
+    ap (step policy_fault_of) (are_stands m.known policy.bytes m.stands m.is_policy) in
+    let made_is : demanded_by m.known claim.table policy.bytes ≡ Ok made =
+    bind_to (policy_over m.known policy.bytes) m.stands _ _ stood
+    (goes_on policy_fault.Lines m.demands _ _ m.are_demands)
+    in
+    let lines_are : Ok (with_demands system policy.waives made)
+    ≡ Ok record { lines = m.lines; claim = claim; stands = m.stands; demands = m.demands } =
+    ap (λ (l : List ForbiddenLine). Ok record {
+      lines = m.lines;
+      claim = record { table = claim.table; lines = l };
+      stands = m.stands;
+      demands = m.demands;
+    }) (sym m.is_claim)
     in
     bind_to (system_of defs wiring) system (λ s. stated_by s policy) _
     (system_to defs wiring system m.system)
-    (goes_on InPolicy claim (claim_of m.known claim.table policy) _ claim_is)
+    (goes_on InPolicy made (demanded_by m.known claim.table policy.bytes) _ made_is ∙ lines_are)
 
 -- what the texts say is a yes, if it is accepted
-pub yes_from : (defs : List (List ℕ)) (wiring policy certificate : List ℕ) (case : Case)
+pub yes_from : (defs : List (List ℕ)) (wiring : List ℕ) (policy : Policy) (certificate : List ℕ) (case : Case)
     → IsBytes certificate
     → case_of defs wiring policy certificate ≡ Ok case
     → IsAccepted case.claim case.draft
@@ -144,11 +167,13 @@ yes_from defs wiring policy certificate case bytes e accepted =
     subst (SayYes defs wiring policy certificate) same says
 
 -- and a yes is what the texts say
-pub said_from : (defs : List (List ℕ)) (wiring policy certificate : List ℕ) (case : Case)
+pub said_from : (defs : List (List ℕ)) (wiring : List ℕ) (policy : Policy) (certificate : List ℕ) (case : Case)
     → SayYes defs wiring policy certificate case
     → case_of defs wiring policy certificate ≡ Ok case
 said_from defs wiring policy certificate case says =
-    let stated : Stated = record { lines = says.means.lines; claim = case.claim } in
+    let m = says.means in
+    let stated : Stated =
+    record { lines = m.lines; claim = case.claim; stands = m.stands; demands = m.demands } in
     let spelled : draft_from certificate ≡ Ok case.draft =
     ap draft_from says.spells.bytes_are ∙ draft_again case.draft says.spells.draft
     in
@@ -158,7 +183,7 @@ said_from defs wiring policy certificate case says =
     (goes_on InCertificate case.draft (draft_from certificate) _ spelled)
 
 -- where the texts say yes, only want of memory is told
-pub only_memory_told : (defs : List (List ℕ)) (wiring policy certificate : List ℕ)
+pub only_memory_told : (defs : List (List ℕ)) (wiring : List ℕ) (policy : Policy) (certificate : List ℕ)
     (r : Result Case (OrMemory TextsFault))
     → Tells r (case_of defs wiring policy certificate)
     → (case : Case)
@@ -187,7 +212,7 @@ only_memory_told defs wiring policy certificate r told case says = refused r tol
     refused (Err Memory) h = refl
 
 -- a yes that is told is right
-pub yes_told : (defs : List (List ℕ)) (wiring policy certificate : List ℕ)
+pub yes_told : (defs : List (List ℕ)) (wiring : List ℕ) (policy : Policy) (certificate : List ℕ)
     (r : Result Case (OrMemory TextsFault))
     → IsBytes certificate
     → Tells r (case_of defs wiring policy certificate)

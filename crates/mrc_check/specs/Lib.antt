@@ -1,3 +1,4 @@
+pub mod Demands
 pub mod Trusted
 pub mod Verdict
 pub mod Texts

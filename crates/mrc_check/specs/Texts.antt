@@ -2,7 +2,7 @@
 -- What MIG files, a wiring, a policy and a certificate mean together, stage by stage, from their
 -- bytes; of which the first has no meaning; and the first reason if the answer is no. This
 -- profile's own choice.
-use Rattle.std.specs.Prelude.{◌≡◌, ℕ, List, Result, Ok, Err, Option, Some, None, slice_get}
+use Rattle.std.specs.Prelude.{◌≡◌, ℕ, Bool, List, Result, Ok, Err, Option, Some, None, slice_get}
 use Rattle.mrc_base.specs.declared.memory.OrMemory.{OrMemory}
 use Rattle.mrc_base.specs.Reading.{◌>>=◌, UnlessMemory}
 use Rattle.mrc_forms.specs.Tables.{Table as Interface}
@@ -12,20 +12,22 @@ use Rattle.mrc_wiring_text.specs.declared.reading.Edition.{Edition}
 use Rattle.mrc_wiring_text.specs.declared.reading.Line.{Line}
 use Rattle.mrc_wiring_text.specs.declared.faults.TextFault.{TextFault}
 use Rattle.mrc_wiring_text.specs.declared.wiring.WiringSays.{WiringSays}
-use Rattle.mrc_wiring_text.specs.declared.policy.Forbid.{Forbid}
-use Rattle.mrc_wiring_text.specs.Policy.{policy_of}
-use Rattle.mrc_wiring_text.specs.Texts.{IsPolicy}
 use Rattle.mrc_stand_for.specs.declared.known.Known.{Known}
-use Rattle.mrc_stand_for.specs.Policies.{policy_lines}
 use Rattle.mrc_wide_text.specs.Wirings.{Said, Says, said_of}
+use Rattle.mrc_wide_policy.specs.declared.facts.PolicyStands.{PolicyStands}
+use Rattle.mrc_wide_policy.specs.declared.policies.PolicyRefusal.{PolicyRefusal}
+use Rattle.mrc_wide_policy.specs.declared.policies.PolicyRefusal.TheVariants as refusal
+use Rattle.mrc_wide_policy.specs.Asked.{asked_by}
+use Rattle.mrc_wide_policy.specs.Policies.{StandFor, stands_of}
 use Rattle.mrc_wiring.specs.Table.{Table}
 use Rattle.mrc_wiring.specs.declared.faults.ResolveFault.{ResolveFault}
 use Rattle.mrc_wiring.specs.declared.faults.ResolveFault.TheVariants.{TooManyNames}
 use Rattle.mrc_wiring.specs.Resolving.{resolved, task_names}
-use Rattle.mrc_wiring.specs.Claims.{Claimed, forbidden_lines}
+use Rattle.mrc_wiring.specs.Claims.{Claimed}
 use Rattle.mrc_certificate.specs.declared.fault.DraftFault.{DraftFault}
 use Rattle.mrc_certificate.specs.Spelling.{Spells, content}
 use Rattle.mrc_certificate.specs.Reading.{draft_from}
+use Rattle.mrc_check.specs.declared.demands.Demand.{Demand}
 use Rattle.mrc_check.specs.declared.faults.WiringFault.{WiringFault}
 use Rattle.mrc_check.specs.declared.faults.WiringFault.TheVariants as wiring_fault
 use Rattle.mrc_check.specs.declared.faults.PolicyFault.{PolicyFault}
@@ -34,6 +36,7 @@ use Rattle.mrc_check.specs.declared.faults.CaseFault.{CaseFault}
 use Rattle.mrc_check.specs.declared.faults.CaseFault.TheVariants as fault
 use Rattle.mrc_check.specs.declared.texts.TextsFault.{TextsFault}
 use Rattle.mrc_check.specs.declared.texts.TextsFault.TheVariants.{Meaning, Check}
+use Rattle.mrc_check.specs.Demands.{demands_of, forbidden_in}
 use Rattle.mrc_check.specs.Verdict.{Case, IsAccepted, IsWhy}
 
 -- a system: the lines that its wiring stands for, what is known after them, and the table that they
@@ -56,21 +59,29 @@ pub record MeanSystem (defs : List (List ℕ)) (wiring : List ℕ) (system : Mea
   pub is_wiring : Says wiring (all_said edition system.lines system.known)
   pub is_table : resolved edition interfaces system.lines ≡ Ok system.table
 
--- The bytes mean a claim: MIG files and wiring mean a system, and the lines that the policy stands
--- for over it forbid these in its table.
-pub record MeanClaim (defs : List (List ℕ)) (wiring policy : List ℕ) (claim : Claimed)
+-- the bytes of a policy, and whether what it waives is let pass
+pub record Policy : Type 0 where
+  pub bytes : List ℕ
+  pub waives : Bool
+
+-- The bytes mean a claim: MIG files and wiring mean a system, and of what the policy demands over
+-- it these are the holdings that it forbids; those that it waives are among them unless they are
+-- let pass.
+pub record MeanClaim (defs : List (List ℕ)) (wiring : List ℕ) (policy : Policy) (claim : Claimed)
     : Type 0 where
   pub lines : List (Line WiringSays)
   pub known : Known
   pub system : MeanSystem defs wiring record { lines = lines; known = known; table = claim.table }
-  pub says : List (Line Forbid)
-  pub is_policy : IsPolicy policy says
-  pub is_claim : forbidden_lines claim.table (policy_lines known says) ≡ Ok claim.lines
+  pub stands : PolicyStands
+  pub is_policy : StandFor known policy.bytes stands
+  pub demands : List Demand
+  pub are_demands : demands_of claim.table (asked_by stands) ≡ Ok demands
+  pub is_claim : claim.lines ≡ forbidden_in policy.waives demands
 
 -- The checker's yes: MIG files, wiring and policy mean a claim, the certificate encodes a draft,
 -- and the draft is accepted for the claim.
-pub record SayYes (defs : List (List ℕ)) (wiring policy certificate : List ℕ) (case : Case)
-    : Type 0 where
+pub record SayYes (defs : List (List ℕ)) (wiring : List ℕ) (policy : Policy)
+    (certificate : List ℕ) (case : Case) : Type 0 where
   pub means : MeanClaim defs wiring policy case.claim
   pub spells : Spells certificate case.draft
   pub accepted : IsAccepted case.claim case.draft
@@ -92,10 +103,13 @@ meaningless (fault.Policy f) = InPolicy f
 meaningless (fault.Certificate f) = InCertificate f
 meaningless (fault.Script f) = InScript f
 
--- a system, and what a policy forbids in it
+-- a system and what a policy forbids in it; with what the policy stands for, and each holding that
+-- it demands something of
 pub record Stated : Type 0 where
   pub lines : List (Line WiringSays)
   pub claim : Claimed
+  pub stands : PolicyStands
+  pub demands : List Demand
 
 -- a fault of lines as it is reported: a task with too many names is named
 abbrev pub lines_fault : List (Line WiringSays) → ResolveFault → WiringFault
@@ -121,32 +135,50 @@ system_of defs wiring = do
   interfaces ← step InDefs (interfaces_of defs)
   step InWiring (system_over interfaces wiring)
 
--- the lines that a policy's bytes stand for over what is known of a wiring
-abbrev pub policy_over : Known → List ℕ → Result (List (Line Forbid)) PolicyFault
-policy_over known policy = step policy_fault.Text (policy_of policy) >>= λ says.
-    Ok (policy_lines known says)
+-- a refusal of a policy as it is reported
+abbrev pub policy_fault_of : PolicyRefusal → PolicyFault
+policy_fault_of (refusal.Text fault) = policy_fault.Text fault
+policy_fault_of (refusal.Stands fault) = policy_fault.Stands fault
 
--- a wiring with what a policy's bytes forbid in it
-abbrev pub claim_of : Known → Table → List ℕ → Result Claimed PolicyFault
-claim_of known table policy = do
-  says ← policy_over known policy
-  lines ← step policy_fault.Lines (forbidden_lines table says)
-  Ok (record { table = table; lines = lines })
+-- what a policy's bytes stand for over what is known of a wiring
+abbrev pub policy_over : Known → List ℕ → Result PolicyStands PolicyFault
+policy_over known policy = step policy_fault_of (stands_of known policy)
+
+-- what a policy stands for, and each holding that it demands something of
+pub record Demanded : Type 0 where
+  pub stands : PolicyStands
+  pub demands : List Demand
+
+-- what a policy's bytes demand over a table after whose wiring this is known
+abbrev pub demanded_by : Known → Table → List ℕ → Result Demanded PolicyFault
+demanded_by known table policy = do
+  stands ← policy_over known policy
+  demands ← step policy_fault.Lines (demands_of table (asked_by stands))
+  Ok (record { stands = stands; demands = demands })
+
+-- a system with what is demanded of it
+abbrev pub with_demands : Meant → Bool → Demanded → Stated
+with_demands system waives made = record {
+  lines = system.lines;
+  claim = record { table = system.table; lines = forbidden_in waives made.demands };
+  stands = made.stands;
+  demands = made.demands;
+}
 
 -- a system with what a policy's bytes forbid in it
-abbrev pub stated_by : Meant → List ℕ → Result Stated Meaningless
+abbrev pub stated_by : Meant → Policy → Result Stated Meaningless
 stated_by system policy = do
-  claim ← step InPolicy (claim_of system.known system.table policy)
-  Ok (record { lines = system.lines; claim = claim })
+  made ← step InPolicy (demanded_by system.known system.table policy.bytes)
+  Ok (with_demands system policy.waives made)
 
 -- what a wiring and a policy mean over interfaces
-abbrev pub stated_over : List Interface → (wiring policy : List ℕ) → Result Stated Meaningless
+abbrev pub stated_over : List Interface → List ℕ → Policy → Result Stated Meaningless
 stated_over interfaces wiring policy = do
   system ← step InWiring (system_over interfaces wiring)
   stated_by system policy
 
 -- what MIG files, a wiring and a policy mean
-abbrev pub stated_of : List (List ℕ) → (wiring policy : List ℕ) → Result Stated Meaningless
+abbrev pub stated_of : List (List ℕ) → List ℕ → Policy → Result Stated Meaningless
 stated_of defs wiring policy = do
   system ← system_of defs wiring
   stated_by system policy
@@ -158,8 +190,7 @@ answered_by claim certificate = do
   Ok (record { claim = claim; draft = draft })
 
 -- what the files mean, or the first that has no meaning
-abbrev pub case_of : List (List ℕ) → (wiring policy certificate : List ℕ)
-    → Result Case Meaningless
+abbrev pub case_of : List (List ℕ) → List ℕ → Policy → List ℕ → Result Case Meaningless
 case_of defs wiring policy certificate = do
   stated ← stated_of defs wiring policy
   answered_by stated.claim certificate

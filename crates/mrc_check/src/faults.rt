@@ -44,6 +44,9 @@ pub enum PolicyFault {
     /// A line names what the wiring lacks.
     #[error("{0}")]
     Lines(ClaimFault),
+    /// A line of version 3 names what the wiring lacks, or stands for nothing.
+    #[error("{0}")]
+    Stands(StandFault),
 }
 
 /// The first text that has no meaning, by its role, and why.

@@ -9,19 +9,21 @@ ghost use Rattle.mrc_wiring.specs.Resolving.{task_names};
 ghost use Rattle.mrc_check.specs.Verdict.{Case};
 ghost use Rattle.mrc_check.specs.Texts.{SayYes, GivesOrReturns, meaningless};
 ghost use Rattle.mrc_check.specs.Texts.{InWiring, lines_fault, system_over, system_of, stated_by};
-ghost use Rattle.mrc_check.specs.Texts.{InPolicy, policy_over};
+ghost use Rattle.mrc_check.specs.Texts.{InPolicy, demanded_by, policy_over};
 ghost use Rattle.mrc_check.specs.Texts.{stated_of, answered_by, case_of, Tells};
 
 use crate::confined::{Confined, Refused, check};
+use crate::demands::{Demand, demands_of, forbidden_in};
 use crate::faults::{CaseFault, PolicyFault, WiringFault};
 use crate::verdict::Why;
 use mrc_base::{Copies, OrMemory};
 use mrc_certificate::read_draft;
 use mrc_interface::read_interfaces;
-use mrc_stand_for::{Known, policy_lines};
+use mrc_stand_for::Known;
+use mrc_wide_policy::{PolicyRefusal, PolicyStands, asked_by, read_stands};
 use mrc_wide_text::{Said, read_said};
 use mrc_wiring::{Claim, Interfaces, ResolveFault, Wired};
-use mrc_wiring_text::{Name, PolicyLine, WiringLine, WiringSays, read_policy};
+use mrc_wiring_text::{Name, WiringLine, WiringSays};
 use std::alloc::{AllocError, Global};
 use std::marker::Model;
 use std::thread::Threads;
@@ -45,6 +47,23 @@ impl Model for System {
     ghost view = { λ s. record { lines = s.lines.items; known = s.known; table = s.wired } };
 }
 
+/// A policy, as it is asked for.
+#[derive(Drop)]
+pub struct PolicyText<'a> {
+    /// Its bytes.
+    pub bytes: &'a [u8],
+    /// Whether what it waives is let pass.
+    pub waives: bool,
+}
+
+impl<'a> Model for PolicyText<'a> {
+    ghost use Rattle.mrc_check.specs.Texts.{Policy};
+
+    ghost Value = { Policy };
+
+    ghost view = { λ p. record { bytes = p.bytes.now; waives = p.waives } };
+}
+
 /// What MIG files, a wiring and a policy mean.
 #[derive(Drop)]
 pub struct Stated {
@@ -52,6 +71,10 @@ pub struct Stated {
     pub lines: Vec<WiringLine>,
     /// What they mean, and what the policy forbids.
     pub claim: Claim,
+    /// What the policy stands for.
+    pub stands: PolicyStands,
+    /// Each holding that the policy demands something of, in its order.
+    pub demands: Vec<Demand>,
 }
 
 impl Model for Stated {
@@ -59,7 +82,12 @@ impl Model for Stated {
 
     ghost Value = { definitions.Stated };
 
-    ghost view = { λ s. record { lines = s.lines.items; claim = s.claim } };
+    ghost view = { λ s. record {
+      lines = s.lines.items;
+      claim = s.claim;
+      stands = s.stands;
+      demands = s.demands.items;
+    } };
 }
 
 /// Why texts are not accepted.
@@ -121,24 +149,59 @@ fn lines_refusal(
     }
 }
 
-/// What a policy of a text says over what is known of a wiring, or why it says nothing.
+/// What a policy's bytes stand for over what is known of a wiring.
 fn policy_over(
     alloc: Global,
     known: &Known,
     policy: &[u8],
-) -> Result<Vec<PolicyLine>, OrMemory<CaseFault>>
-    ensures { GivesAs (λ lines. lines.items) meaningless result
+) -> Result<PolicyStands, OrMemory<CaseFault>>
+    ensures { GivesAs (λ stands. stands) meaningless result
         (step InPolicy (policy_over known.now policy.now)) }
 {
-    let said = match read_policy(alloc, policy) {
-        Ok(said) => said,
+    match read_stands(alloc, known.copy(alloc)?, policy) {
+        Ok(stands) => Ok(stands),
+        Err(refusal) => Err(refusal.map_fault(|refusal| {
+            CaseFault::Policy(match refusal {
+                PolicyRefusal::Text(fault) => PolicyFault::Text(fault),
+                PolicyRefusal::Stands(fault) => PolicyFault::Stands(fault),
+            })
+        })),
+    }
+}
+
+/// What a policy stands for, and each holding that it demands something of.
+#[derive(Drop)]
+struct Demanded {
+    stands: PolicyStands,
+    demands: Vec<Demand>,
+}
+
+impl Model for Demanded {
+    ghost use Rattle.mrc_check.specs.Texts as definitions;
+
+    ghost Value = { definitions.Demanded };
+
+    ghost view = { λ d. record { stands = d.stands; demands = d.demands.items } };
+}
+
+/// What a policy's bytes demand over a wiring.
+fn demanded_by(
+    alloc: Global,
+    known: &Known,
+    wired: &Wired,
+    policy: &[u8],
+) -> Result<Demanded, OrMemory<CaseFault>>
+    ensures { GivesAs (λ made. made) meaningless result
+        (step InPolicy (demanded_by known.now wired.now policy.now)) }
+{
+    let stands = policy_over(alloc, known, policy)?;
+    let asked = asked_by(alloc, &stands)?;
+    match demands_of(alloc, wired, &asked) {
+        Ok(demands) => Ok(Demanded { stands, demands }),
         Err(refusal) => {
-            return Err(refusal.map_fault(|fault| CaseFault::Policy(PolicyFault::Text(fault))));
+            drop(stands);
+            Err(refusal.map_fault(|fault| CaseFault::Policy(PolicyFault::Lines(fault))))
         }
-    };
-    match policy_lines(alloc, known, &said) {
-        Ok(lines) => Ok(lines),
-        Err(AllocError) => Err(OrMemory::Memory),
     }
 }
 
@@ -219,41 +282,39 @@ impl System {
         }
     }
 
-    /// The system with what the bytes of a policy forbid in it. With a refusal the system comes
-    /// back.
+    /// The system with what a policy forbids in it. With a refusal the system comes back.
     pub fn claim(
         self,
         alloc: Global,
-        policy: &[u8],
+        policy: &PolicyText<'_>,
     ) -> Result<Stated, (System, OrMemory<CaseFault>)>
         ensures { GivesOrReturns (λ stated. stated) meaningless self result
             (stated_by self policy.now) }
     {
-        let forbidden = match policy_over(alloc, &self.known, policy) {
-            Ok(forbidden) => forbidden,
+        let made = match demanded_by(alloc, &self.known, &self.wired, policy.bytes) {
+            Ok(made) => made,
             Err(refusal) => return Err((self, refusal)),
+        };
+        let forbidden = match forbidden_in(alloc, policy.waives, &made.demands) {
+            Ok(forbidden) => forbidden,
+            Err(AllocError) => {
+                drop(made);
+                return Err((self, OrMemory::Memory));
+            }
         };
         let System {
             lines,
             known,
             wired,
         } = self;
-        match Claim::new(alloc, wired, forbidden.as_slice()) {
-            Ok(claim) => {
-                drop((forbidden, known));
-                Ok(Stated { lines, claim })
-            }
-            Err((wired, refusal)) => {
-                drop(forbidden);
-                let fault = refusal.map_fault(|fault| CaseFault::Policy(PolicyFault::Lines(fault)));
-                let system = System {
-                    lines,
-                    known,
-                    wired,
-                };
-                Err((system, fault))
-            }
-        }
+        let Demanded { stands, demands } = made;
+        drop(known);
+        Ok(Stated {
+            lines,
+            claim: Claim::over(wired, forbidden),
+            stands,
+            demands,
+        })
     }
 }
 
@@ -264,7 +325,7 @@ impl Stated {
         alloc: Global,
         defs: &[Vec<u8>],
         wiring: &[u8],
-        policy: &[u8],
+        policy: &PolicyText<'_>,
     ) -> Result<Stated, OrMemory<CaseFault>>
         ensures { GivesAs (λ stated. stated) meaningless result
             (stated_of (map (λ bytes. bytes.items) defs.now) wiring.now policy.now) }
@@ -317,15 +378,22 @@ fn checked(
     alloc: Global,
     defs: &[Vec<u8>],
     wiring: &[u8],
-    policy: &[u8],
+    policy: &PolicyText<'_>,
     certificate: &[u8],
 ) -> Result<Confined, OrMemory<TextsFault>>
     ensures { Tells result (case_of (map (λ bytes. bytes.items) defs.now) wiring.now policy.now
         certificate.now) }
 {
     match Stated::read(alloc, defs, wiring, policy) {
-        Ok(Stated { lines, claim }) => {
-            drop(lines);
+        Ok(
+            Stated {
+                lines,
+                claim,
+                stands,
+                demands,
+            },
+        ) => {
+            drop((lines, stands, demands));
             answered_by(rt, alloc, claim, certificate)
         }
         Err(refusal) => Err(refusal.map_fault(TextsFault::Meaning)),
@@ -343,7 +411,7 @@ pub fn check_texts(
     alloc: Global,
     defs: &[Vec<u8>],
     wiring: &[u8],
-    policy: &[u8],
+    policy: &PolicyText<'_>,
     certificate: &[u8],
 ) -> Result<Confined, OrMemory<TextsFault>>
     // A yes is right.

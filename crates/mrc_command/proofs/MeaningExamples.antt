@@ -34,10 +34,10 @@ usage command =
 
 -- the whole table
 all_commands : map usage commands
-    ≡ codes "verify wiring= policy= [tree] [brief] [line=] [format=] [verbose] defs*"
-    ∷ codes "mend wiring= policy= [line=] [most=] [format=] [verbose] defs*"
-    ∷ codes "attack wiring= policy= [line=] [most=] [format=] [verbose] defs*"
-    ∷ codes "check wiring= policy= cert= [format=] [verbose] defs*"
+    ≡ codes "verify wiring= policy= [tree] [brief] [line=] [waive] [format=] [verbose] defs*"
+    ∷ codes "mend wiring= policy= [line=] [waive] [most=] [format=] [verbose] defs*"
+    ∷ codes "attack wiring= policy= [line=] [waive] [most=] [format=] [verbose] defs*"
+    ∷ codes "check wiring= policy= cert= [waive] [format=] [verbose] defs*"
     ∷ codes "make wiring= out= [workers=N] [verbose] defs*"
     ∷ codes "explain wiring= fact= [by] [format=] [verbose] defs*"
     ∷ codes "facts wiring= [cert=] [task=] [class=] [right=] [format=] [verbose] defs*"
@@ -115,6 +115,21 @@ verify_flags : given {T = List Bool × Option ℕ} (λ rows. (
 unfolding clap_on_literals number_of_word
 verify_flags = refl
 
+-- what is waived is let pass, and not
+verify_waives : given (has_flag (codes "waive")) (codes "verify --waive --wiring w --policy p")
+    ≡ Some (codes "verify", true)
+unfolding clap_on_literals
+verify_waives = refl
+
+check_waives_not : given (has_flag (codes "waive")) check_line ≡ Some (codes "check", false)
+unfolding clap_on_literals
+check_waives_not = refl
+
+slots_waive_not : given (has_flag (codes "waive")) (codes "slots --wiring w --waive")
+    ≡ Some (codes "slots", false)
+unfolding clap_on_literals
+slots_waive_not = refl
+
 -- what is drawn
 graph_task : given {T = Option Text × Bool}
     (λ rows. (first_of (codes "task") rows, has_flag (codes "holds") rows))
@@ -183,6 +198,10 @@ twice = refl
 unknown : faults (codes "make --out c --format=json --wiring w") ≡ UnknownArgument ∷ []
 unfolding clap_on_literals
 unknown = refl
+
+unknown_waive : faults (codes "slots --wiring w --waive") ≡ UnknownArgument ∷ []
+unfolding clap_on_literals
+unknown_waive = refl
 
 missing : faults (codes "check --wiring w --policy p") ≡ MissingRequiredArgument ∷ []
 unfolding clap_on_literals

@@ -79,13 +79,14 @@ strictness_of false true = Rights
 strictness_of false false = Each
 
 -- the files that the options name, by their roles: the first value of each option, and all MIG
--- files in their order
+-- files in their order; and whether what the policy waives is let pass
 pub record NamesFiles (rows : List Row) (files : FileNames) : Type 0 where
   pub defs : map (λ file. file.now) files.defs.items ≡ all_values (codes "defs") rows
   pub wiring : first_of (codes "wiring") rows ≡ Some files.wiring.now
   pub policy : first_of (codes "policy") rows ≡ option_map (λ file. file.now) files.policy
   pub certificate : first_of (codes "cert") rows ≡ option_map (λ file. file.now) files.certificate
   pub script : first_of (codes "script") rows ≡ option_map (λ file. file.now) files.script
+  pub waives : files.waives ≡ has_flag (codes "waive") rows
 
 -- how the answer of `verify` is printed by these options
 pub record IsShowing (rows : List Row) (showing : Showing) : Type 0 where

@@ -33,6 +33,8 @@ pub struct FileNames<'a> {
     pub certificate: Option<&'a str>,
     /// The script, if one is named.
     pub script: Option<&'a str>,
+    /// Whether what the policy waives is let pass: `--waive`.
+    pub waives: bool,
 }
 
 /// How an answer is printed.
@@ -321,6 +323,7 @@ fn files_named<'a>(alloc: Global, matches: &ArgMatches<'a>) -> Result<FileNames<
         policy: value_given(matches, "policy"),
         certificate: value_given(matches, "cert"),
         script: value_given(matches, "script"),
+        waives: has_flag(matches, "waive"),
     })
 }
 

@@ -4,8 +4,8 @@ pub(crate) const PROGRAM_HELP: &str = "Exit status of each command:
   0  YES was printed, or changes that lead to it, a certificate was made, a chain, facts, a
      drawing, slots, promises, lines or a message were printed, a script was replayed or run by threads, MIG
      files were written, or help or the version was printed
-  1  NO was printed, with a reason, or REAL, with calls, or none: if no chain leads to a fact,
-     or if no change was found that leads to YES
+  1  NO was printed, with a reason, or REAL, with calls, or WAIVED without --waive, or none: if no
+     chain leads to a fact, or if no change was found that leads to YES
   2  a fault was told on standard error: a file can't be read or has no meaning,
      the command line is wrong, the output was not taken, or memory ran out; or nothing is
      read of MIG files
@@ -28,6 +28,11 @@ pub(crate) const CHECK_HELP: &str = "Files, as docs/FORMATS.md describes them:
 
 --verbose says on standard error what to do where the certificate is not of this wiring.
 It also shows where a fault is, and what may help to mend it.
+
+With --waive what the policy waives is as if it were not forbidden, without it as if it were not
+waived. What the policy expects is not judged, since a certificate may have more than can come
+about. A line on standard error says so:
+`machcheck: FILE: N expected facts are not judged: use verify`.
 
 With YES a line on standard error names the tasks that the wiring trusts, if there are any:
 `machcheck: FILE: trusted: TASK, TASK`. `machcheck promises` prints what they must keep to.
@@ -155,6 +160,12 @@ line N below each NO, as `  # TEXT`. This is always so if standard output is a t
 --brief, or with these texts, a first line may name a fact that the steps to K of the N broken
 lines have in common: `# K of N lines by: FACT`.
 
+A policy of version 3 can name its lines, expect facts, and waive forbidden ones. Behind N then
+comes the line's name in quotes. `NO expected line N FACT` is printed of a fact that is expected
+and can't come about. `WAIVED line N FACT WORDS` is printed in place of `NO forbidden` of a fact
+that is waived, with the words that say why. Neither has steps. Waived facts do no harm with
+--waive; without it there is no YES if one can come about.
+
 With YES a line on standard error names the tasks that the wiring trusts, if there are any:
 `machcheck: FILE: trusted: TASK, TASK`. `machcheck promises` prints what they must keep to.
 
@@ -165,7 +176,7 @@ Standard error is the same as without them.
 Exit status:
   0  YES: no list of calls can lead to a holding that the policy forbids
   1  NO: a trusted task that another could rewrite, and each line that is broken, with the
-     steps that lead there
+     steps that lead there; or, without --waive, a line that is WAIVED
   2  a fault on standard error, as `machcheck: FILE: FAULT`: a file can't be read or has
      no meaning, --line is not a number from 1 to 4294967295 (BadLine) or that line is not
      broken (NotBroken), --format is not text, json or sarif (BadFormat), the command line is
@@ -192,6 +203,9 @@ the broken lines it mends in addition to those before it.
 
 With --line N only line N of the policy is looked at: with the changes it is not broken, and no
 trusted task can be rewritten, while other lines may be broken.
+
+The answer after a mend is YES with what the policy expects, too. If an expected fact is lacking
+already, `none` is printed. With --waive what the policy waives need not be mended.
 
 --format json prints the changes as one JSON object, and a fault too. docs/FORMATS.md describes
 these objects. Standard error is the same as without it.
@@ -230,12 +244,15 @@ search, a line on standard error names the line of the policy:
 `machcheck: attack: line N: not all ways were tried`. All else on standard error is as `verify`
 prints it.
 
+What the policy expects or waives is printed as `verify` prints it, and no calls are looked for.
+With --waive waived facts do no harm.
+
 --format json prints the calls that were found as one JSON object, and a fault too.
 docs/FORMATS.md describes these objects. Standard error is the same as without it.
 
 Exit status:
   0  YES: no list of calls can lead to a holding that the policy forbids
-  1  REAL or NO for each line that is broken
+  1  REAL or NO for each line that is broken; or, without --waive, a line that is WAIVED
   2  a fault on standard error, as `machcheck: FILE: FAULT`: a file can't be read or has
      no meaning, --line is not a number from 1 to 4294967295 (BadLine) or that line is not
      broken (NotBroken), --most is not a number from 1 to 1000000 (BadMost), --format is not text

@@ -48,6 +48,10 @@ const CERT_IF_ANY: Row = row! {
 
 const SCRIPT: Row = row! { Needed "script" "FILE" "The calls, one a line" };
 
+const WAIVE: Row = row! {
+    Flag "waive" "" "Lets what the policy waives pass, as if it were not forbidden"
+};
+
 const FORMAT: Row = row! {
     Free "format" "FORMAT" "How the answer is printed: text, or json for one JSON object"
 };
@@ -75,6 +79,7 @@ pub(crate) const COMMANDS: [Entry; 16] = [
             row! { Flag "tree" "" "Prints the steps from the fact down" },
             row! { Flag "brief" "" "Prints the broken lines without their steps" },
             row! { Free "line" "N" "Only this line of the policy" },
+            WAIVE,
             REPORT_FORMAT,
             row! {
                 Flag "verbose" ""
@@ -93,6 +98,7 @@ pub(crate) const COMMANDS: [Entry; 16] = [
             row! {
                 Free "line" "N" "Only this line of the policy: other lines may stay broken"
             },
+            WAIVE,
             row! {
                 Free "most" "N" "How many mends are printed, 1 to 1000000: 10 if it is not given"
             },
@@ -111,6 +117,7 @@ pub(crate) const COMMANDS: [Entry; 16] = [
             row! {
                 Free "line" "N" "Only this line of the policy: its calls are printed as a script"
             },
+            WAIVE,
             row! {
                 Free "most" "N"
                 "How many chains are played for a line, 1 to 1000000: 30 if it is not given"
@@ -128,6 +135,7 @@ pub(crate) const COMMANDS: [Entry; 16] = [
             WIRING,
             POLICY,
             CERT,
+            WAIVE,
             FORMAT,
             row! {
                 Flag "verbose" ""

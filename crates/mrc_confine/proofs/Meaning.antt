@@ -8,24 +8,25 @@ use Rattle.mrc_base.specs.declared.Fact.{Fact}
 use Rattle.mrc_base.specs.declared.Fact.TheVariants.{Hold}
 use Rattle.mrc_base.specs.declared.PortRight.TheVariants.{Send}
 use Rattle.mrc_base.proofs.Steps.{ok_is}
-use Rattle.mrc_check.specs.Texts.{MeanClaim, all_said}
+use Rattle.mrc_check.specs.Demands.{demands_of, forbidden_in}
+use Rattle.mrc_check.specs.Texts.{MeanClaim, Policy, all_said}
 use Rattle.mrc_check.specs.Trusted.{is_bound, may_rewrite}
 use Rattle.mrc_confine.specs.Safety.{HasRewriter, HaveNoYes, IsBroken, IsNo}
 use Rattle.mrc_facts.specs.Sets.{has}
 use Rattle.mrc_interface.proofs.ReadingLaws.{interfaces_read}
 use Rattle.mrc_model.specs.Wiring.{Wiring, kernel_class}
-use Rattle.mrc_wiring.specs.Claims.{Claimed, forbidden_lines}
+use Rattle.mrc_wiring.specs.Claims.{Claimed}
 use Rattle.mrc_wiring.specs.declared.claim.ForbiddenLine.{ForbiddenLine}
 use Rattle.mrc_wiring.specs.Resolving.{resolved}
 use Rattle.mrc_wiring.specs.Table.{Table, wiring_of}
-use Rattle.mrc_wiring_text.proofs.TextLaws.{text_read}
-use Rattle.mrc_stand_for.specs.Policies.{policy_lines}
 use Rattle.mrc_wide_text.specs.Wirings.{Said}
 use Rattle.mrc_wide_text.proofs.SaidLaws.{is_said}
-use Rattle.mrc_wiring_text.specs.Policy.{policy_says}
+use Rattle.mrc_wide_policy.specs.Asked.{asked_by}
+use Rattle.mrc_wide_policy.specs.Policies.{stands_of}
+use Rattle.mrc_wide_policy.proofs.StandLemmas.{are_stands}
 
 -- two claims that the same bytes mean are one
-same_claim : (defs : List (List ℕ)) (wiring policy : List ℕ) (a b : Claimed)
+same_claim : (defs : List (List ℕ)) (wiring : List ℕ) (policy : Policy) (a b : Claimed)
     → MeanClaim defs wiring policy a → MeanClaim defs wiring policy b → a ≡ b
 same_claim defs wiring policy a b m n =
     let interfaces : m.system.interfaces ≡ n.system.interfaces =
@@ -44,13 +45,15 @@ same_claim defs wiring policy a b m n =
     ∙ ap (λ i. resolved n.system.edition i m.lines) interfaces
     ∙ ap (λ l. resolved n.system.edition n.system.interfaces l) lines
     ∙ n.system.is_table) in
-    let says : m.says ≡ n.says = ok_is m.says n.says
-    (sym (text_read _ policy_says policy m.says m.is_policy)
-    ∙ text_read _ policy_says policy n.says n.is_policy) in
-    let forbidden : a.lines ≡ b.lines = ok_is a.lines b.lines
-    (sym m.is_claim ∙ ap (λ t. forbidden_lines t (policy_lines m.known m.says)) table
-    ∙ ap (λ k. forbidden_lines b.table (policy_lines k m.says)) known
-    ∙ ap (λ l. forbidden_lines b.table (policy_lines n.known l)) says ∙ n.is_claim) in
+    let stands : m.stands ≡ n.stands = ok_is m.stands n.stands
+    (sym (are_stands m.known policy.bytes m.stands m.is_policy)
+    ∙ ap (λ k. stands_of k policy.bytes) known
+    ∙ are_stands n.known policy.bytes n.stands n.is_policy) in
+    let demands : m.demands ≡ n.demands = ok_is m.demands n.demands
+    (sym m.are_demands ∙ ap (λ t. demands_of t (asked_by m.stands)) table
+    ∙ ap (λ s. demands_of b.table (asked_by s)) stands ∙ n.are_demands) in
+    let forbidden : a.lines ≡ b.lines =
+    m.is_claim ∙ ap (forbidden_in policy.waives) demands ∙ sym n.is_claim in
     let with_table : Table → Claimed = λ t. record { table = t; lines = a.lines } in
     let with_lines : List ForbiddenLine → Claimed = λ l. record { table = b.table; lines = l } in
     ap with_table table ∙ ap with_lines forbidden

@@ -2,12 +2,12 @@
 -- means for certificates. What a yes means for every run of the machine: that of the checker to a
 -- certificate, and that of the least set of facts; and what a no means for certificates. This
 -- profile's own choice.
-use Rattle.std.specs.Prelude.{◌≡◌, ◌≢◌, ◌<◌, ℕ, Bool, false, List, IsTrue}
+use Rattle.std.specs.Prelude.{◌≡◌, ◌≢◌, ◌<◌, ℕ, Bool, false, List, [], ◌∷◌, IsTrue}
 use Rattle.mrc_base.specs.declared.Fact.{Fact}
 use Rattle.mrc_base.specs.declared.Fact.TheVariants.{Hold}
 use Rattle.mrc_base.specs.declared.PortRight.TheVariants.{Send}
 use Rattle.mrc_certificate.specs.Drafts.{Content}
-use Rattle.mrc_check.specs.Texts.{MeanClaim, SayYes}
+use Rattle.mrc_check.specs.Texts.{MeanClaim, Policy, SayYes}
 use Rattle.mrc_check.specs.Trusted.{AreSecure, is_bound}
 use Rattle.mrc_check.specs.Verdict.{Case, IsAccepted}
 use Rattle.mrc_facts.specs.Sets.{has}
@@ -15,7 +15,7 @@ use Rattle.mrc_model.specs.Breach.{Breach, Forbid}
 use Rattle.mrc_model.specs.Covers.{Covers}
 use Rattle.mrc_model.specs.First.{first, is_sound}
 use Rattle.mrc_model.specs.IsIn.{IsIn}
-use Rattle.mrc_model.specs.Rules.{Has, IsLeast, Least, SaysYes}
+use Rattle.mrc_model.specs.Rules.{Closed, Has, IsLeast, Least, SaysYes}
 use Rattle.mrc_model.specs.Runs.{Event, Run}
 use Rattle.mrc_model.specs.Wiring.{kernel_class}
 use Rattle.mrc_model.specs.World.{World}
@@ -47,7 +47,8 @@ AcceptedIsSafe =
 -- And it is so where the bytes of MIG files, a wiring, a policy and a certificate say yes.
 abbrev pub YesIsSafe : Type 0
 YesIsSafe =
-    (defs : List (List ℕ)) (wiring policy certificate : List ℕ) (case : Case)
+    (defs : List (List ℕ)) (wiring : List ℕ) (policy : Policy) (certificate : List ℕ)
+    (case : Case)
     → SayYes defs wiring policy certificate case → IsSafe case
 
 -- Without a certificate.
@@ -62,11 +63,23 @@ pub record IsLeastYes (claim : Claimed) (set : Fact → Bool) : Type 0 where
 -- that policy.
 abbrev pub VerifiedIsSafe : Type 0
 VerifiedIsSafe =
-    (defs : List (List ℕ)) (wiring policy : List ℕ) (claim : Claimed) (set : Fact → Bool)
+    (defs : List (List ℕ)) (wiring : List ℕ) (policy : Policy) (claim : Claimed)
+    (set : Fact → Bool)
     → MeanClaim defs wiring policy claim → IsLeastYes claim set → IsSafeBy claim set
 
+-- Where the bytes of MIG files, a wiring and a policy mean a claim, and a closed set of its wiring
+-- lacks a holding, no list of calls from the first state of that wiring leads to such a holding.
+abbrev pub LackedIsNeverHeld : Type 0
+LackedIsNeverHeld =
+    (defs : List (List ℕ)) (wiring : List ℕ) (policy : Policy) (claim : Claimed)
+    (set : Fact → Bool) (holding : Forbid) (events : List Event) (w : World)
+    → MeanClaim defs wiring policy claim → Closed (wiring_of claim.table) (Has set)
+    → set (Hold holding.task holding.class holding.right) ≡ false
+    → LeadsTo claim events w
+    → Breach (wiring_of claim.table) w (holding ∷ []) → ⊥
+
 -- no certificate is accepted for the bytes
-abbrev pub NoneIsAccepted : List (List ℕ) → (wiring policy : List ℕ) → Type 0
+abbrev pub NoneIsAccepted : List (List ℕ) → List ℕ → Policy → Type 0
 NoneIsAccepted defs wiring policy =
     (certificate : List ℕ) (case : Case) → SayYes defs wiring policy certificate case → ⊥
 
@@ -98,5 +111,5 @@ pub record HasRewriter (claim : Claimed) : Type 0 where
 -- no certificate is accepted for bytes that mean a claim of this kind
 abbrev pub HaveNoYes : (Claimed → Type 0) → Type 0
 HaveNoYes Refused =
-    (defs : List (List ℕ)) (wiring policy : List ℕ) (claim : Claimed)
+    (defs : List (List ℕ)) (wiring : List ℕ) (policy : Policy) (claim : Claimed)
     → MeanClaim defs wiring policy claim → Refused claim → NoneIsAccepted defs wiring policy

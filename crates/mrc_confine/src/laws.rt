@@ -1,7 +1,7 @@
 //! The laws above the checker and the machine, proved of the definitions alone. Each is the
 //! contract of a function that does nothing.
 ghost use Rattle.mrc_confine.specs.Safety.{AcceptedIsSafe, HasRewriter, HaveNoYes, IsBroken, IsNo};
-ghost use Rattle.mrc_confine.specs.Safety.{IsSafe, VerifiedIsSafe, YesIsSafe};
+ghost use Rattle.mrc_confine.specs.Safety.{IsSafe, LackedIsNeverHeld, VerifiedIsSafe, YesIsSafe};
 ghost use Rattle.mrc_model.specs.Headline.{CoveredIsSafe, FirstIsCovered, StepIsCovered};
 
 use mrc_check::Confined;
@@ -57,6 +57,12 @@ pub fn yes_is_safe()
 /// certificate is needed.
 pub fn verified_is_safe()
     ensures safe { VerifiedIsSafe }
+{}
+
+/// A holding that a closed set of facts lacks comes about in no run: so a system in which it is
+/// expected cannot work as it is wired.
+pub fn lacked_is_never_held()
+    ensures lacked { LackedIsNeverHeld }
 {}
 
 /// The bytes of MIG files, a wiring and a policy mean a claim. In three cases no certificate is

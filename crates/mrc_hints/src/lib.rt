@@ -28,4 +28,6 @@ pub use mig_second::second_mig_hint;
 pub use mig_sources::marked_name;
 pub use name_hints::{names_hint, policy_name_hint, wiring_name_hint};
 pub use script_hints::script_hint;
-pub use wide_hints::{stand_hint, wide_line_hint, wide_name_hint};
+pub use wide_hints::{
+    policy_stand_hint, stand_hint, wide_line_hint, wide_name_hint, wide_policy_line_hint,
+};

@@ -1,4 +1,4 @@
-//! Places of faults of wirings of version 4, with a sentence for each.
+//! Places of faults of wirings of version 4 and of policies of version 3, with a sentence for each.
 
 ghost use Rattle.std.specs.Prelude.{IfOk};
 ghost use Rattle.mrc_place.specs.Spots.{HasCaretInside};
@@ -19,6 +19,9 @@ const KEYWORDS: [&str; 17] = [
 
 /// What helps with a line that is none of version 4.
 const NO_LINE: &str = "this is no line of a wiring of version 4";
+
+/// What helps with a line that is none of a policy of version 3.
+const NO_POLICY_LINE: &str = "this is no line of a policy of version 3";
 
 /// What helps with a name that no line declares.
 const UNKNOWN: &str = "a name in this line is declared by no line above";
@@ -155,6 +158,49 @@ pub fn stand_hint(alloc: Global, text: &str, fault: StandFault) -> Result<Hint, 
             )
         }
         StandFault::TooMany(line) => (line, "the lines so far stand for more than 1,048,576"),
+    };
+    line_note(alloc, text, line, note)
+}
+
+/// What helps with a line that is none of a policy of version 3: its place, and a sentence.
+pub fn wide_policy_line_hint(alloc: Global, text: &str, line: u32) -> Result<Hint, AllocError>
+    // The caret is inside its line.
+    ensures { IfOk result (HasCaretInside text.now) }
+{
+    if line > LINES {
+        return Ok(Hint::of_notes(one_note(alloc, "the text has more than 65,535 lines")?));
+    }
+    line_note(alloc, text, line, NO_POLICY_LINE)
+}
+
+/// What helps with a line of a policy of version 3 that stands for no facts: its place, and a
+/// sentence.
+pub fn policy_stand_hint(alloc: Global, text: &str, fault: StandFault) -> Result<Hint, AllocError>
+    // The caret is inside its line.
+    ensures { IfOk result (HasCaretInside text.now) }
+{
+    let (line, note) = match fault {
+        StandFault::BadLine(line) | StandFault::Late(line) => (line, NO_POLICY_LINE),
+        StandFault::UnknownName(line) => {
+            (
+                line,
+                "a name in this line is declared neither by the wiring nor above, or is that of no \
+                 forbid line above",
+            )
+        }
+        StandFault::Empty(line) => {
+            (
+                line,
+                "a list in this line stands for nothing, or the line waives nothing",
+            )
+        }
+        StandFault::TwiceNamed(line) => {
+            (
+                line,
+                "the wiring or a line above declares a task, group or set of this name",
+            )
+        }
+        StandFault::TooMany(line) => (line, "the lines so far name more than 1,048,576 facts"),
     };
     line_note(alloc, text, line, note)
 }

@@ -66,9 +66,9 @@ fn phrases(alloc: Global, edition: Edition, place: Place) -> Result<Vec<&'static
             alloc,
             &["wiring 1", "wiring 2", "wiring 3", "wiring 4"],
         ),
-        Place::PolicyHead => Vec::from_slice(alloc, &["policy 1", "policy 2"]),
+        Place::PolicyHead => Vec::from_slice(alloc, &["policy 1", "policy 2", "policy 3"]),
         Place::WiringVersion => Vec::from_slice(alloc, &["1", "2", "3", "4"]),
-        Place::PolicyVersion => Vec::from_slice(alloc, &["1", "2"]),
+        Place::PolicyVersion => Vec::from_slice(alloc, &["1", "2", "3"]),
         _ => line_phrases(alloc, edition, place),
     }
 }

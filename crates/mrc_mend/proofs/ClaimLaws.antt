@@ -5,13 +5,8 @@ use Rattle.std.proofs.lemmas.List.Elements.{All-weaker}
 use Rattle.mrc_base.specs.Reading.{◌>>=◌}
 use Rattle.mrc_forms.specs.Tables.{Table as Interface}
 use Rattle.mrc_interface.specs.Reading.{step, interfaces_of}
-use Rattle.mrc_stand_for.specs.declared.known.Known.{Known}
-use Rattle.mrc_wiring.specs.Table.{Table}
-use Rattle.mrc_wiring.specs.Claims.{Claimed, forbidden_lines}
-use Rattle.mrc_check.specs.declared.faults.PolicyFault.{PolicyFault}
-use Rattle.mrc_check.specs.declared.faults.PolicyFault.TheVariants.{Lines}
-use Rattle.mrc_check.specs.Texts.{InDefs, InWiring, InPolicy, Meant, Stated, system_over, claim_of}
-use Rattle.mrc_check.specs.Texts.{policy_over, stated_by, stated_of, stated_over}
+use Rattle.mrc_check.specs.Texts.{InDefs, InWiring, InPolicy, Meant, Policy, Stated, system_over}
+use Rattle.mrc_check.specs.Texts.{demanded_by, stated_by, stated_of, stated_over}
 use Rattle.mrc_mend.specs.declared.answers.Answer.{Answer}
 use Rattle.mrc_mend.specs.declared.answers.Answer.TheVariants.{Nothing, Found}
 use Rattle.mrc_mend.specs.declared.answers.Mend.{Mend}
@@ -25,36 +20,16 @@ after_step : {A B E F : Type 0} (P : B → Type 0) (place : E → F) (r : Result
 after_step P place (Ok x) f holds = holds x
 after_step P place (Err fault) f holds = tt
 
-after_bind : {A B F : Type 0} (P : B → Type 0) (r : Result A F) (f : A → Result B F)
-    → ((x : A) → IfOk (f x) P) → IfOk (r >>= f) P
-after_bind P (Ok x) f holds = holds x
-after_bind P (Err fault) f holds = tt
-
--- a claim has the table that it is made of
-claim_kept : (known : Known) (table : Table) (policy : List ℕ)
-    → IfOk (claim_of known table policy) (λ claim. claim.table ≡ table)
-claim_kept known table policy =
-    after_bind _ (policy_over known policy) _
-    (λ says. after_step _ Lines (forbidden_lines table says) _ (λ lines. refl))
-
-stated_kept : (system : Meant) (claim : Result Claimed PolicyFault)
-    → IfOk claim (λ claim. claim.table ≡ system.table)
-    → IfOk (step InPolicy claim >>= λ claim. Ok record { lines = system.lines; claim = claim })
-    (λ (stated : Stated). stated.claim.table ≡ system.table)
-stated_kept system (Ok claim) kept = kept
-stated_kept system (Err fault) kept = tt
-
 -- a policy leaves the table of a system unchanged
-pub table_kept : (system : Meant) (policy : List ℕ) (stated : Stated)
+pub table_kept : (system : Meant) (policy : Policy) (stated : Stated)
     → stated_by system policy ≡ Ok stated
     → stated.claim.table ≡ system.table
 table_kept system policy stated e =
     subst (λ r. IfOk r (λ (stated : Stated). stated.claim.table ≡ system.table)) e
-    (stated_kept system (claim_of system.known system.table policy)
-    (claim_kept system.known system.table policy))
+    (after_step _ InPolicy (demanded_by system.known system.table policy.bytes) _ (λ made. refl))
 
 -- if the files have these interfaces, what the files mean is what is meant over them
-pub stated_same : (defs : List (List ℕ)) (wiring policy : List ℕ) (interfaces : List Interface)
+pub stated_same : (defs : List (List ℕ)) (wiring : List ℕ) (policy : Policy) (interfaces : List Interface)
     → interfaces_of defs ≡ Ok interfaces
     → stated_of defs wiring policy ≡ stated_over interfaces wiring policy
 stated_same defs wiring policy interfaces e =

@@ -19,7 +19,7 @@ use Rattle.mrc_check.specs.Texts.{Stated}
 use Rattle.mrc_mend.specs.declared.changes.Change.{Change}
 use Rattle.mrc_mend.specs.declared.judging.Verdict.{Verdict}
 use Rattle.mrc_mend.specs.declared.judging.Verdict.TheVariants as verdict
-use Rattle.mrc_mend.specs.Judging.{Texts, IfMending, MendOver, of_line, stated_with}
+use Rattle.mrc_mend.specs.Judging.{Texts, IfMending, IsYesTo, MendOver, stated_with}
 
 -- a line that is found forbids a fact of the set
 found_line : (facts : List Fact) (lines : List ForbiddenLine) (line : ForbiddenLine)
@@ -72,7 +72,7 @@ no_of claim facts (Some line) least e = λ set yes secure.
 pub mends_over : (interfaces : List Interface) (texts : Texts) (changes : List Change)
     (stated : Stated) (v : Verdict)
     → stated_with interfaces texts changes ≡ Ok stated
-    → IfMending (HasYes (of_line texts.only stated.claim)) v
+    → IfMending (IsYesTo texts.only stated) v
     → IfMending (MendOver interfaces texts changes) v
 mends_over interfaces texts changes stated (verdict.Mends lost) means is_yes =
     record { stated = stated; means = means; yes = is_yes }

@@ -6,7 +6,7 @@ ghost use Rattle.mrc_interface.specs.Reading.{GivesAs, interfaces_of, step};
 ghost use Rattle.mrc_check.specs.Texts.{InDefs, meaningless, stated_of};
 ghost use Rattle.mrc_mend.specs.Causes.{IsCause};
 ghost use Rattle.mrc_mend.specs.Judging.{MendOver, IsMend, AreAnswered, AreAtMost};
-ghost use Rattle.mrc_mend.specs.Judging.{of_line, IsNeeded, IsNeededOf, HasCause};
+ghost use Rattle.mrc_mend.specs.Judging.{IsNeeded, IsNeededOf, HasCause};
 
 use crate::causes::{Cause, cause_of};
 use crate::changes::Change;
@@ -18,9 +18,10 @@ use crate::losing::First;
 use crate::searching::Searched;
 use crate::weighing::broken_numbers;
 use mrc_base::{Copies, OrMemory};
-use mrc_check::{CaseFault, Stated};
+use mrc_check::{CaseFault, PolicyText, Stated};
 use mrc_closure::make_alone;
 use mrc_interface::read_interfaces;
+use mrc_why::is_met;
 use mrc_wiring::{Claim, Interfaces};
 use std::alloc::{AllocError, Global};
 
@@ -106,18 +107,27 @@ fn answered<P: Progress>(
 ) -> Result<Answer, AllocError>
     ensures mends { IfOk result (AreAnswered (MendOver interfaces texts.now)) }
     ensures within { IfOk result (AreAtMost most) }
-    ensures needed { IfOk result (IsNeeded (of_line texts.now.only first.now.claim)) }
+    ensures needed { IfOk result (IsNeeded texts.now.only first.now) }
     ensures cause { IfOk result (HasCause first.now.claim) }
 {
     let wired = first.claim.wired();
     let made = make_alone(alloc, wired)?;
     let facts = &made.facts;
+    let lines = asked_lines(alloc, first.claim.lines(), texts.only)?;
+    let broken = broken_numbers(alloc, &lines, facts)?;
+    if !is_met(alloc, first, facts)? {
+        // Changes take facts away, so none brings back what is lacking.
+        return Ok(Answer::Found(Mends {
+            mends: Vec::new(alloc),
+            cut_off: false,
+            broken: broken.len(),
+            cause: None,
+        }));
+    }
     let objection = first_objection(alloc, &first.claim, texts.only, facts)?;
     let Some(fact) = objection else {
         return Ok(Answer::Nothing);
     };
-    let lines = asked_lines(alloc, first.claim.lines(), texts.only)?;
-    let broken = broken_numbers(alloc, &lines, facts)?;
     let (edition, is_wide) = edition(alloc, texts.wiring)?;
     let before = First {
         wired,
@@ -162,7 +172,7 @@ pub fn find_mends<P: Progress>(
     alloc: Global,
     defs: &[Vec<u8>],
     wiring: &[u8],
-    policy: &[u8],
+    policy: &PolicyText<'_>,
     only: Option<usize>,
     most: usize,
     progress: &mut P,
@@ -173,8 +183,8 @@ pub fn find_mends<P: Progress>(
     // There are no more than that.
     ensures within { IfOk result (AreAtMost most) }
     // Nothing is to be mended if and only if the least set is a yes to the lines that are asked
-    // for; else no set is, and what the broken lines are said to have in common is in the chain of
-    // each.
+    // for, and has what is expected; else no set is, or it lacks such a fact. What the broken lines
+    // are said to have in common is in the chain of each.
     ensures needed { IfOk result (IsNeededOf
         (stated_of (map (λ bytes. bytes.items) defs.now) wiring.now policy.now) only) }
     // Which fault it is: that of the first file.

@@ -8,25 +8,26 @@ ghost use Rattle.mrc_check.specs.Trusted.{AreSecure};
 ghost use Rattle.mrc_why.specs.Broken.{is_broken, HasYes, HasNoYes};
 ghost use Rattle.mrc_check.specs.Texts.{GivesOrReturns, meaningless, stated_over};
 ghost use Rattle.mrc_mend.specs.Judging.{asked_lines, of_line, MendOver, IfMending};
+ghost use Rattle.mrc_mend.specs.Judging.{IsYesTo};
 
 use crate::changes::{Change, mended};
 use crate::cutting::children;
 use crate::losing::{First, lost};
 use mrc_base::{Fact, OrMemory};
-use mrc_check::{CaseFault, Stated, System, first_exposed};
+use mrc_check::{CaseFault, PolicyText, Stated, System, first_exposed};
 use mrc_classes::Facts;
 use mrc_closure::make_alone;
-use mrc_why::forbidden_fact;
+use mrc_why::{forbidden_fact, is_met};
 use mrc_wiring::{Claim, ForbiddenLine, Interfaces};
 use std::alloc::{AllocError, Global};
 use std::marker::Model;
 
-/// The bytes of a wiring that is to be mended, and of a policy, and the number of the only line of
-/// the policy that is asked for, if not all are.
+/// The bytes of a wiring that is to be mended, a policy, and the number of the only line of the policy
+/// that is asked for, if not all are.
 #[derive(Drop)]
 pub(crate) struct Texts<'a> {
     pub(crate) wiring: &'a [u8],
-    pub(crate) policy: &'a [u8],
+    pub(crate) policy: &'a PolicyText<'a>,
     pub(crate) only: Option<usize>,
 }
 
@@ -143,7 +144,7 @@ pub(crate) fn stated_over(
     alloc: Global,
     interfaces: Interfaces,
     wiring: &[u8],
-    policy: &[u8],
+    policy: &PolicyText<'_>,
 ) -> Result<Stated, (Interfaces, OrMemory<CaseFault>)>
     ensures told { GivesOrReturns (λ stated. stated) meaningless interfaces result
         (stated_over interfaces wiring.now policy.now) }
@@ -180,6 +181,27 @@ fn next_of(
     children(alloc, first, stated, facts, changes, fact)
 }
 
+/// What changes do after which nothing that is asked for is objected to: they mend the wiring,
+/// unless it then lacks what the policy expects. Changes take facts away, so none that change more
+/// bring it back.
+fn yes_verdict(
+    alloc: Global,
+    only: Option<usize>,
+    first: &First<'_>,
+    stated: &Stated,
+    facts: &Facts,
+) -> Result<Verdict, AllocError>
+    requires least { IsLeast (wiring_of stated.now.claim.table) (has facts.now) }
+    requires yes { HasYes (of_line only stated.now.claim) }
+    ensures { IfOk result (IfMending (IsYesTo only stated.now)) }
+{
+    if is_met(alloc, stated, facts)? {
+        let lost = lost(alloc, first, stated.claim.wired(), facts)?;
+        return Ok(Verdict::Mends(lost));
+    }
+    Ok(Verdict::Fails(Vec::new(alloc)))
+}
+
 /// What the changes do that have this meaning.
 fn verdict_of(
     alloc: Global,
@@ -189,12 +211,12 @@ fn verdict_of(
     changes: &[Change],
     are_last: bool,
 ) -> Result<Verdict, AllocError>
-    ensures { IfOk result (IfMending (HasYes (of_line only stated.now.claim))) }
+    ensures { IfOk result (IfMending (IsYesTo only stated.now)) }
 {
     let wired = stated.claim.wired();
     let made = make_alone(alloc, wired)?;
     match first_objection(alloc, &stated.claim, only, &made.facts)? {
-        None => Ok(Verdict::Mends(lost(alloc, first, wired, &made.facts)?)),
+        None => yes_verdict(alloc, only, first, stated, &made.facts),
         Some(fact) => {
             let next = next_of(alloc, first, stated, &made.facts, changes, &fact, are_last)?;
             Ok(Verdict::Fails(next))

@@ -1,10 +1,11 @@
 //! The fact that most chains of broken lines have in common.
 
 use mrc_base::{ClassId, Fact, PortRight};
+use mrc_check::Demand;
 use mrc_classes::RuleName;
 use mrc_closure::Step;
 use mrc_facts::ListedFacts;
-use mrc_why::Broken;
+use mrc_why::{Broken, is_waived, is_waived_line};
 use mrc_wiring::Wired;
 use std::alloc::{AllocError, Global};
 use std::collections::BTreeMap;
@@ -39,7 +40,7 @@ fn count_chain(alloc: Global, counts: &mut Counts, steps: &[Step]) -> Result<(),
 }
 
 /// In how many chains each fact is.
-fn counts_of(alloc: Global, broken: &[Broken]) -> Result<Counts, AllocError> {
+fn counts_of(alloc: Global, broken: &[&Broken]) -> Result<Counts, AllocError> {
     let mut counts = BTreeMap::new(alloc);
     for line in broken {
         count_chain(alloc, &mut counts, line.steps())?;
@@ -84,13 +85,30 @@ fn last_of(wired: &Wired, counts: &Counts, steps: &[Step]) -> Option<Common> {
         .max_by_key(|common| common.chains)
 }
 
+/// Those of the broken lines that none of the demands waives.
+pub fn unwaived<'a>(
+    alloc: Global,
+    told: &[Demand],
+    broken: &'a [Broken],
+) -> Result<Vec<&'a Broken>, AllocError> {
+    let waived: Vec<Demand> = told
+        .iter()
+        .copied()
+        .filter(|demand| is_waived(demand))
+        .collect(alloc)?;
+    broken
+        .iter()
+        .filter(|line| !is_waived_line(&waived, line.line()))
+        .collect(alloc)
+}
+
 /// The fact that is in the chains of most of these lines, of two at least: a hold that no line
 /// which makes a task or a port gives, and that no step of K2 or K3 concludes. Of several it is the
 /// last in the first chain that has one.
 pub fn common_of(
     alloc: Global,
     wired: &Wired,
-    broken: &[Broken],
+    broken: &[&Broken],
 ) -> Result<Option<Common>, AllocError> {
     let counts = counts_of(alloc, broken)?;
     Ok(

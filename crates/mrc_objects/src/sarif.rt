@@ -2,15 +2,18 @@
 
 use crate::json::json_text;
 use crate::json_faults::{FaultParts, parts_text};
+use crate::line_names::LineNames;
 use crate::lines::lines_on;
 use crate::sarif_objects::{
-    Driver, FORBIDDEN, Invocation, Location, LogObject, Message, Notification, Region,
+    Driver, EXPECTED, FORBIDDEN, Invocation, Location, LogObject, Message, Notification, Region,
     ResultObject, Run, TRUSTED, Tool, location_of,
 };
 use crate::sarif_places::Placed;
 use crate::sarif_results::result_objects;
+use mrc_check::Demand;
 use mrc_place::Hint;
 use mrc_why::Verdict;
+use mrc_wide_policy::PolicyStands;
 use std::alloc::{AllocError, Global};
 
 /// The text of a message: `{` and `}` are doubled, since a message may have placeholders.
@@ -62,7 +65,7 @@ fn log_text(
     };
     let driver = Driver {
         name: "machcheck",
-        rules: (FORBIDDEN, TRUSTED),
+        rules: (FORBIDDEN, TRUSTED, EXPECTED),
     };
     let run = Run {
         column_kind: "unicodeCodePoints",
@@ -87,16 +90,19 @@ pub fn yes_sarif(alloc: Global, err: &str) -> Result<String, AllocError> {
 /// The log of a verdict that is no yes: a result for the trusted task that another could rewrite,
 /// at its line of the wiring, and one for each broken line, at this line of the policy; or, with
 /// `only`, for the broken lines of this number alone. The chain of each is its code flow. Each line
-/// on standard error (`err`) is a notification.
+/// on standard error (`err`) is a notification. There are results too for what is waived, each with its
+/// suppression, and for what is expected and lacking.
 pub fn broken_sarif(
     placed: &Placed<'_>,
-    only: Option<u32>,
+    (only, status): (Option<u32>, u8),
     verdict: &Verdict,
+    (stands, told): (&PolicyStands, &[Demand]),
     err: &str,
 ) -> Result<String, AllocError> {
-    let results = result_objects(placed, only, verdict)?;
+    let names = LineNames::of(placed.alloc, stands)?;
+    let results = result_objects(placed, only, verdict, told, &names)?;
     let notices = notices(placed.alloc, err)?;
-    log_text(placed.alloc, 1, notices, results)
+    log_text(placed.alloc, status, notices, results)
 }
 
 /// The locations of a fault: none if it has no file. A name that begins with `--` is an option's.

@@ -72,16 +72,27 @@ pub(crate) struct CodeFlow {
     pub(crate) thread_flows: (ThreadFlow,),
 }
 
-/// What is found: its chain, its place, what is printed of it, and the id and the number of a rule.
+/// Why a result is let pass.
+#[derive(Drop, Serialize)]
+pub(crate) struct Suppression {
+    pub(crate) justification: String,
+    pub(crate) kind: &'static str,
+}
+
+/// What is found: its chain, if it has one, its place, what is printed of it, the id and the number
+/// of a rule, and why it is let pass. Of a run either all results say so or none does.
 #[derive(Drop, Serialize)]
 #[serde(rename_all = "camelCase")]
 pub(crate) struct ResultObject {
-    pub(crate) code_flows: (CodeFlow,),
+    #[serde(skip_serializing_if = "Option::is_none")]
+    pub(crate) code_flows: Option<(CodeFlow,)>,
     pub(crate) level: &'static str,
     pub(crate) locations: (Location,),
     pub(crate) message: Message,
     pub(crate) rule_id: &'static str,
     pub(crate) rule_index: u8,
+    #[serde(skip_serializing_if = "Option::is_none")]
+    pub(crate) suppressions: Option<Vec<Suppression>>,
 }
 
 /// A notification.
@@ -140,11 +151,21 @@ pub(crate) const TRUSTED: Rule = Rule {
     behind_fact: " can come about: another task could rewrite the one that this line trusts",
 };
 
+/// What the policy expects has to be able to come about.
+pub(crate) const EXPECTED: Rule = Rule {
+    id: "expected",
+    short_description: Description {
+        text: "A task can't come to hold what the policy expects",
+    },
+    index: 2,
+    behind_fact: " can't come about: this line expects it",
+};
+
 /// The program, and its rules in the order of their numbers.
 #[derive(Clone, Copy, Serialize)]
 pub(crate) struct Driver {
     pub(crate) name: &'static str,
-    pub(crate) rules: (Rule, Rule),
+    pub(crate) rules: (Rule, Rule, Rule),
 }
 
 /// The tool.

@@ -1,16 +1,20 @@
 //! What is found of a policy, as results with their chains step by step.
 
-use crate::json_verdicts::is_asked;
+use crate::common::unwaived;
+use crate::json_verdicts::{is_asked, is_asked_line};
+use crate::line_names::LineNames;
 use crate::sarif_objects::{
-    CodeFlow, FORBIDDEN, FlowLocation, Location, Message, Region, ResultObject, Rule, TRUSTED,
-    ThreadFlow, location_of,
+    CodeFlow, EXPECTED, FORBIDDEN, FlowLocation, Location, Message, Region, ResultObject, Rule,
+    Suppression, TRUSTED, ThreadFlow, location_of,
 };
 use crate::sarif_places::{Place, Placed, source_place};
 use mrc_base::Fact;
+use mrc_check::Demand;
 use mrc_closure::Step;
-use mrc_why::{Source, Verdict, forbidden_fact, places_text, source_text};
+use mrc_why::{Source, Verdict, forbidden_fact, is_waived, places_text, source_text};
+use mrc_wide_policy::Stance;
 use mrc_words::fact_text;
-use std::alloc::AllocError;
+use std::alloc::{AllocError, Global};
 
 /// The location of a line, and what is at it.
 fn line_location(
@@ -60,8 +64,8 @@ fn result_object(
     placed: &Placed<'_>,
     rule: &Rule,
     place: Place<'_>,
-    fact: Fact,
-    chain: &[Step],
+    (fact, chain): (Fact, &[Step]),
+    suppresses: bool,
 ) -> Result<ResultObject, AllocError> {
     let alloc = placed.alloc;
     let locations = chain
@@ -73,37 +77,105 @@ fn result_object(
     text.push_str(rule.behind_fact)?;
     let thread_flows = (ThreadFlow { locations },);
     Ok(ResultObject {
-        code_flows: (CodeFlow { thread_flows },),
+        code_flows: Some((CodeFlow { thread_flows },)),
         level: "error",
         locations: (line_location(placed, place, None)?,),
         message: Message { text },
         rule_id: rule.id,
         rule_index: rule.index,
+        suppressions: if suppresses {
+            Some(Vec::new(alloc))
+        } else {
+            None
+        },
+    })
+}
+
+/// That a result is let pass for this reason: nothing, if there is none.
+fn suppressions_by(alloc: Global, reason: Option<&str>) -> Result<Vec<Suppression>, AllocError> {
+    let mut suppressions = Vec::new(alloc);
+    if let Some(reason) = reason {
+        suppressions.push(Suppression {
+            justification: String::from_str(alloc, reason)?,
+            kind: "external",
+        })?;
+    }
+    Ok(suppressions)
+}
+
+/// A fact that is told of a line without a chain: one that is waived, for this reason, or one that
+/// is expected and lacking.
+fn told_object(
+    placed: &Placed<'_>,
+    rule: &Rule,
+    place: Place<'_>,
+    fact: Fact,
+    reason: Option<&str>,
+    suppresses: bool,
+) -> Result<ResultObject, AllocError> {
+    let alloc = placed.alloc;
+    let mut text = fact_text(alloc, placed.sources.wired(), fact)?;
+    text.push_str(rule.behind_fact)?;
+    let suppressions = if suppresses {
+        Some(suppressions_by(alloc, reason)?)
+    } else {
+        None
+    };
+    Ok(ResultObject {
+        code_flows: None,
+        level: "error",
+        locations: (line_location(placed, place, None)?,),
+        message: Message { text },
+        rule_id: rule.id,
+        rule_index: rule.index,
+        suppressions,
     })
 }
 
 /// All that is found and asked for: the trusted task, at its line of the wiring, unless one line is
-/// asked for, and then the broken lines, each at this line of the policy.
+/// asked for; then the broken lines, each at this line of the policy; and then what is waived, and
+/// what is expected and lacking.
 pub(crate) fn result_objects(
     placed: &Placed<'_>,
     only: Option<u32>,
     verdict: &Verdict,
+    told: &[Demand],
+    names: &LineNames<'_>,
 ) -> Result<Vec<ResultObject>, AllocError> {
     let mut objects = Vec::new(placed.alloc);
+    let suppresses = told
+        .iter()
+        .any(|demand| is_waived(demand) && is_asked(only, demand));
     if let (None, Some(exposed)) = (only, &verdict.exposed) {
         let file = placed.names.wiring;
         let line = exposed.line();
         let place = Place { file, line };
-        let (fact, steps) = (exposed.fact(), exposed.steps());
-        objects.push(result_object(placed, &TRUSTED, place, fact, steps)?)?;
+        let chain = (exposed.fact(), exposed.steps());
+        objects.push(result_object(placed, &TRUSTED, place, chain, suppresses)?)?;
     }
     let file = placed.names.policy.unwrap_or("");
-    for broken in &verdict.broken {
-        if is_asked(only, broken) {
+    for broken in &unwaived(placed.alloc, told, verdict.broken.as_slice())? {
+        if is_asked_line(only, broken.line()) {
             let line = broken.line().line;
             let place = Place { file, line };
-            let (fact, steps) = (forbidden_fact(broken.line()), broken.steps());
-            objects.push(result_object(placed, &FORBIDDEN, place, fact, steps)?)?;
+            let chain = (forbidden_fact(broken.line()), broken.steps());
+            objects.push(result_object(placed, &FORBIDDEN, place, chain, suppresses)?)?;
+        }
+    }
+    for demand in told {
+        let line = demand.holding.line;
+        let place = Place { file, line };
+        let fact = forbidden_fact(&demand.holding);
+        match demand.stance {
+            _ if !is_asked(only, demand) => {}
+            Stance::Forbidden => {}
+            Stance::Waived(waiver) => {
+                let reason = Some(names.reason(waiver));
+                objects.push(told_object(placed, &FORBIDDEN, place, fact, reason, suppresses)?)?
+            }
+            Stance::Expected => {
+                objects.push(told_object(placed, &EXPECTED, place, fact, None, suppresses)?)?
+            }
         }
     }
     Ok(objects)

@@ -9,7 +9,7 @@ use Rattle.mrc_command.specs.declared.command.Question.TheVariants.{Live}
 use Rattle.mrc_files.specs.Files.{Held}
 use Rattle.mrc_answer.specs.declared.answers.Answer.{Answer}
 use Rattle.mrc_answer.specs.declared.answers.Answer.TheVariants as answers
-use Rattle.mrc_answer.specs.declared.answers.BrokenPolicy.{BrokenPolicy}
+use Rattle.mrc_answer.specs.declared.answers.JudgedPolicy.{JudgedPolicy}
 use Rattle.mrc_answer.specs.declared.asking.Answered.{Answered}
 use Rattle.mrc_answer.specs.declared.asking.WasRead.{WasRead}
 use Rattle.mrc_answer.specs.declared.asking.WasRead.TheVariants.{Nothing, Texts, Defs}
@@ -18,14 +18,14 @@ use Rattle.mrc_answer.specs.Files.{Files}
 use Rattle.mrc_answer.specs.Notices.{Notices}
 use Rattle.mrc_print.specs.Heads.{IsShown}
 
--- of a question about files: only `verify` has such an answer
-of_question : (before after : Held) (question : Question) (files : Files) (b : BrokenPolicy)
+-- of a question about files: only `verify` and `attack` have such an answer
+of_question : (before after : Held) (question : Question) (files : Files) (b : JudgedPolicy)
     (notices : Notices)
     → IsAnswer before after question files (answers.Broken b) notices
     → IsShown (answers.Broken b)
 of_question before after (Verify showing) files b notices is = is.shown
 of_question before after (Mend line most format) files b notices is = absurd is.0
-of_question before after (Attack line most format) files b notices is = absurd is
+of_question before after (Attack line most format) files b notices is = is.shown
 of_question before after (Check verbose format) files b notices is = absurd is
 of_question before after (Make out workers) files b notices is = absurd is.0
 of_question before after (Explain fact by format) files b notices is = absurd is.0
@@ -38,7 +38,7 @@ of_question before after (Replay format) files b notices is = absurd is.0
 of_question before after (Live format) files b notices is = absurd is.0
 
 -- of a command
-of_command : (before after : Held) (command : Command) (read : WasRead) (b : BrokenPolicy)
+of_command : (before after : Held) (command : Command) (read : WasRead) (b : JudgedPolicy)
     (notices : Notices)
     → IsReply before after command read (answers.Broken b) notices
     → IsShown (answers.Broken b)
@@ -61,6 +61,7 @@ of_reply : (before after : Held) (command : Command) (read : WasRead) (answer : 
 of_reply before after command read answers.Yes notices is = tt
 of_reply before after command read (answers.Broken b) notices is =
     of_command before after command read b notices is
+of_reply before after command read (answers.Waived w) notices is = tt
 of_reply before after command read (answers.Refused r) notices is = tt
 of_reply before after command read (answers.Attacks a) notices is = tt
 of_reply before after command read (answers.Mends m) notices is = tt

@@ -53,14 +53,17 @@ pub none_told : {E : Type 0} (seen notices : Notices)
     → (named ≡ [] → notices.plain ≡ [])
     → (named ≡ [] → notices.leaky ≡ [])
     → (named ≡ [] → notices.dead ≡ no_dead_parts)
+    → (named ≡ [] → notices.demands.expects_nothing ≡ false)
+    → (named ≡ [] → notices.demands.idle ≡ [])
+    → (named ≡ [] → notices.demands.unjudged ≡ 0)
     → (trusted ≡ [] → seen.trusted ≡ [])
     → besides ≡ empty ++ (named ++ trusted)
     → IfOk r (λ text. string_bytes text ≡ dropped ++ (notification ++ besides))
     → IfOk r (λ text. string_bytes text ≡ [] → AreNone notices)
-none_told seen notices dropped notification empty named trusted besides (Err e) same a k b c p l d t
-    are is = tt
-none_told seen notices dropped notification empty named trusted besides (Ok text) same a k b c p l d t
-    are is =
+none_told seen notices dropped notification empty named trusted besides (Err e) same a k b c p l d x
+    y z t are is = tt
+none_told seen notices dropped notification empty named trusted besides (Ok text) same a k b c p l d x
+    y z t are is =
     λ none.
     let whole : dropped ++ (notification ++ besides) ≡ [] = sym is ∙ none in
     let behind : notification ++ besides ≡ [] =
@@ -80,6 +83,9 @@ none_told seen notices dropped notification empty named trusted besides (Ok text
       plain = p (first_empty named trusted both);
       leaky = l (first_empty named trusted both);
       dead = d (first_empty named trusted both);
+      expecting = x (first_empty named trusted both);
+      idle = y (first_empty named trusted both);
+      unjudged = z (first_empty named trusted both);
       trusted = subst (λ (n : Notices). n.trusted ≡ []) same
           (t (rest_empty named trusted both));
     }

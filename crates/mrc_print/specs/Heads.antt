@@ -1,10 +1,12 @@
 -- Believe. What is printed of an answer for people: how its text begins, and what is printed behind
 -- that as it is made. This profile's own choice.
-use Rattle.std.specs.Prelude.{◌≡◌, ◌⊎◌, ℕ, Bool, true, false, List, [], ◌++◌, codes, decimal}
+use Rattle.std.specs.Prelude.{◌≡◌, ◌⊎◌, ◌||◌, ℕ, Bool, true, false, List, [], ◌++◌, codes, decimal}
+use Rattle.std.specs.List.{list_any}
 use Rattle.mrc_attack.specs.Attacks.{attacks_text}
 use Rattle.mrc_command.specs.declared.command.Format.{Format}
 use Rattle.mrc_command.specs.declared.command.Format.TheVariants as formats
 use Rattle.mrc_command.specs.Meaning.{question_format}
+use Rattle.mrc_check.specs.declared.demands.Demand.{Demand}
 use Rattle.mrc_mend.specs.Texts.{mends_text}
 use Rattle.mrc_report.specs.Replay.{replay_text}
 use Rattle.mrc_answer.specs.declared.answers.Answer.{Answer}
@@ -15,6 +17,7 @@ use Rattle.mrc_answer.specs.declared.answers.Answer.TheVariants.{Mig, Fault}
 use Rattle.mrc_answer.specs.declared.asking.Answered.{Answered}
 use Rattle.mrc_answer.specs.declared.asking.WasRead.{WasRead}
 use Rattle.mrc_answer.specs.declared.asking.WasRead.TheVariants.{Texts}
+use Rattle.mrc_why.specs.Answered.{is_expected, is_waived}
 use Rattle.mrc_answer.specs.Verified.{IsAsked, form_of}
 use Rattle.mrc_print.specs.declared.asked.Asked.{Asked}
 use Rattle.mrc_print.specs.declared.asked.Asked.TheVariants.{Case, Mig, Message}
@@ -26,23 +29,33 @@ abbrev pub IsHead : List ℕ → Type 0
 IsHead before =
     (before ≡ []) ⊎ ((words : List ℕ) × (before ≡ codes "# " ++ (words ++ codes "\n")))
 
--- behind that the text begins with `NO `
-abbrev pub HasNo : List ℕ → Type 0
-HasNo text =
-    (before : List ℕ) × (rest : List ℕ) × IsHead before × (text ≡ before ++ (codes "NO " ++ rest))
-
--- The same of its parts.
-
 -- the text begins with `NO `
 abbrev pub IsNo : List ℕ → Type 0
 IsNo text = (rest : List ℕ) × (text ≡ codes "NO " ++ rest)
 
+-- the text begins with `WAIVED `
+abbrev pub IsWaived : List ℕ → Type 0
+IsWaived text = (rest : List ℕ) × (text ≡ codes "WAIVED " ++ rest)
+
+-- one of the two
+abbrev pub IsTold : List ℕ → Type 0
+IsTold text = IsNo text ⊎ IsWaived text
+
 -- it does if that is so, and else it is empty
-abbrev pub IsNoIf : Bool → List ℕ → Type 0
-IsNoIf true text = IsNo text
-IsNoIf false text = text ≡ []
+abbrev pub IsToldIf : Bool → List ℕ → Type 0
+IsToldIf true text = IsTold text
+IsToldIf false text = text ≡ []
+
+-- behind the head the text begins so
+abbrev pub HasTold : List ℕ → Type 0
+HasTold text =
+    (before : List ℕ) × (rest : List ℕ) × IsHead before × IsTold rest × (text ≡ before ++ rest)
 
 -- How the text of each answer begins.
+
+-- what is asked of a holding is told beside attacks
+abbrev pub is_beside : Demand → Bool
+is_beside demand = is_waived demand || is_expected demand
 
 -- the text of the wiring, if it was read
 abbrev pub wiring_text : WasRead → List ℕ
@@ -51,13 +64,14 @@ wiring_text read = []
 
 -- The text is right of an answer, so far as it is said: exactly for attacks, mends, and answers of
 -- one line; by its first word for a broken policy and for a reason; and for answers that are
--- printed as they are made, or on standard error alone, it is empty.
+-- printed as they are made, or on standard error alone, it is empty. Of attacks it is said where no
+-- holding is waived, or expected and lacking.
 abbrev pub IsHeadOf : WasRead → Answer → List ℕ → Type 0
 IsHeadOf read Yes text = text ≡ codes "YES\n"
-IsHeadOf read (Broken b) text = HasNo text
+IsHeadOf read (Broken b) text = HasTold text
 IsHeadOf read (Refused r) text = IsNo text
-IsHeadOf read (Attacks a) text =
-    text ≡ attacks_text (form_of a.only) a.stated.claim.table a.found.items
+IsHeadOf read (Attacks a) text = list_any is_beside a.told.items ≡ false
+    → text ≡ attacks_text (form_of a.only) a.stated.claim.table a.found.items
 IsHeadOf read (Mends answer) text = text ≡ mends_text (wiring_text read) answer
 IsHeadOf read (Made count) text = text ≡ codes "facts " ++ (decimal count ++ codes "\n")
 IsHeadOf read (NoChain u) text = text ≡ codes "none\n"
@@ -76,7 +90,7 @@ HasHead answered text = IsHeadOf answered.read answered.reply.answer text
 
 -- of an answer that a policy is broken, something is asked for
 abbrev pub IsShown : Answer → Type 0
-IsShown (Broken b) = IsAsked b.only b.verdict.exposed b.verdict.broken.items
+IsShown (Broken b) = IsAsked b.only b.verdict.exposed b.told.items
 IsShown answer = Unit {0}
 
 -- What is printed as it is made.

@@ -13,6 +13,9 @@ pub record AreNone (notices : Notices) : Type 0 where
   pub cut_before : notices.cut_before ≡ []
   pub notification : notices.notification ≡ None
   pub policy : notices.is_empty_policy ≡ false
+  pub expecting : notices.demands.expects_nothing ≡ false
+  pub idle : notices.demands.idle ≡ []
+  pub unjudged : notices.demands.unjudged ≡ 0
   pub plain : notices.plain ≡ []
   pub leaky : notices.leaky ≡ []
   pub dead : notices.dead ≡ no_dead_parts

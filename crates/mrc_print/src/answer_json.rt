@@ -5,7 +5,8 @@ use crate::mig_texts::mig_json;
 use mrc_answer::{Answer, MigEnd, MigTexts, WasRead};
 use mrc_objects::{
     Making, attacks_json, broken_json, chain_json, counts_json, facts_json, fault_json, graph_json,
-    mends_json, none_json, promises_json, reason_json, slots_json, undrawn_json, yes_json,
+    mends_json, none_json, promises_json, reason_json, slots_json, undrawn_json, waived_json,
+    yes_json,
 };
 use mrc_place::Hint;
 use std::alloc::{AllocError, Global};
@@ -58,13 +59,27 @@ pub(crate) fn answer_json(
 ) -> Result<String, AllocError> {
     match answer {
         Answer::Yes => yes_json(making),
+        Answer::Broken(broken) if making.command != "verify" => {
+            attacks_json(making, broken.stated.claim.wired(), &[])
+        }
         Answer::Broken(broken) => {
-            broken_json(making, &broken.stated, !brief, broken.only, &broken.verdict)
+            let told = broken.told.as_slice();
+            broken_json(
+                making,
+                &broken.stated,
+                !brief,
+                broken.only,
+                &broken.verdict,
+                told,
+            )
         }
         Answer::Refused(refused) => reason_json(making, refused.claim.wired(), refused.why),
         Answer::Attacks(attacked) => {
             let wired = attacked.stated.claim.wired();
             attacks_json(making, wired, attacked.found.as_slice())
+        }
+        Answer::Waived(judged) => {
+            waived_json(making, &judged.stated, judged.only, judged.told.as_slice())
         }
         Answer::Mends(answer) => mends_json(making, answer),
         Answer::Mig(mig_texts) => mig_answer_object(making, mig_texts, hint),

@@ -2,17 +2,18 @@
 
 use crate::faults::fault_parts;
 use crate::reading::{defs_texts, names_of};
-use mrc_answer::{Answer, BrokenPolicy, WasRead};
+use mrc_answer::{Answer, JudgedPolicy, WasRead};
 use mrc_objects::{Placed, broken_sarif, fault_sarif, yes_sarif};
 use mrc_place::Hint;
 use mrc_why::Sources;
 use std::alloc::{AllocError, Global};
 
-/// The log of a policy that is broken.
-fn broken_log(
+/// The log of what is found of a policy, with this status.
+fn judged_log(
     alloc: Global,
     read: &WasRead<'_>,
-    broken: &BrokenPolicy,
+    broken: &JudgedPolicy,
+    status: u8,
     errors: &str,
 ) -> Result<String, AllocError> {
     let Some(names) = names_of(read) else {
@@ -26,7 +27,14 @@ fn broken_log(
         texts: defs_texts(read),
         sources: &sources,
     };
-    broken_sarif(&placed, broken.only, &broken.verdict, errors)
+    let told = (&stated.stands, broken.told.as_slice());
+    broken_sarif(
+        &placed,
+        (broken.only, status),
+        &broken.verdict,
+        told,
+        errors,
+    )
 }
 
 /// The log of an answer of `verify`: nothing of other answers.
@@ -39,7 +47,8 @@ pub(crate) fn answer_sarif(
 ) -> Result<String, AllocError> {
     match answer {
         Answer::Yes => yes_sarif(alloc, errors),
-        Answer::Broken(broken) => broken_log(alloc, read, broken, errors),
+        Answer::Broken(broken) => judged_log(alloc, read, broken, 1, errors),
+        Answer::Waived(judged) => judged_log(alloc, read, judged, 0, errors),
         Answer::Fault(fault) => {
             let parts = fault_parts(alloc, read, fault)?;
             fault_sarif(alloc, &parts, hint)

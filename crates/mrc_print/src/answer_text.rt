@@ -3,19 +3,24 @@
 ghost use Rattle.std.specs.Prelude.{◌≡◌, IfOk, string_bytes};
 ghost use Rattle.mrc_answer.specs.Verified.{IsAsked};
 ghost use Rattle.mrc_answer.specs.Verified as verified;
-ghost use Rattle.mrc_print.specs.Heads.{HasNo, IsHeadOf, IsShown};
+ghost use Rattle.std.specs.Prelude.{false};
+ghost use Rattle.std.specs.List.{list_any};
+ghost use Rattle.mrc_attack.specs.Attacks.{attacks_text};
+ghost use Rattle.mrc_print.specs.Heads as heads;
+ghost use Rattle.mrc_print.specs.Heads.{HasTold, IsHeadOf, IsShown};
 
 use crate::asked::Asked;
 use crate::reading::{policy_text, wiring_text};
 use crate::reasons::reason_line;
-use crate::text::{Manner, no_text};
-use mrc_answer::{Answer, BrokenPolicy, Explained, WasRead};
+use crate::text::{Manner, attacks_and_told, no_text, waived_text};
+use mrc_answer::{Answer, Attacked, Explained, JudgedPolicy, WasRead};
 use mrc_attack::{Listing, attacks_text};
+use mrc_check::Demand;
 use mrc_command::Showing;
 use mrc_draw::{facts_text, graph_text};
 use mrc_mend::mends_text;
 use mrc_objects::{TextLines, expanded_text, promises_text, slots_text};
-use mrc_why::{Layout, Sources, chain_text, plain_lines};
+use mrc_why::{Layout, Sources, chain_text, is_expected, is_waived, plain_lines};
 use std::alloc::{AllocError, Global};
 
 /// The layout of chains: none, if the answer is to be brief, and from their conclusions down if a
@@ -59,16 +64,70 @@ fn broken_text(
     alloc: Global,
     showing: Showing,
     read: &WasRead<'_>,
-    broken: &BrokenPolicy,
+    broken: &JudgedPolicy,
 ) -> Result<String, AllocError>
-    requires { IsAsked broken.now.only broken.now.verdict.exposed broken.now.verdict.broken.items }
-    ensures { IfOk result (λ text. HasNo (string_bytes text)) }
+    requires { IsAsked broken.now.only broken.now.verdict.exposed broken.now.told.items }
+    ensures { IfOk result (λ text. HasTold (string_bytes text)) }
 {
     let stated = &broken.stated;
     let sources = Sources::new(alloc, stated.claim.wired(), stated.lines.as_slice())?;
     let manner = manner_of(alloc, read, showing)?;
-    let text = no_text(alloc, &sources, &manner, broken.only, &broken.verdict)?;
+    let text = no_text(alloc, &sources, &manner, broken)?;
     Ok(text)
+}
+
+/// The text of a yes besides what is waived.
+fn yes_text(
+    alloc: Global,
+    showing: Showing,
+    read: &WasRead<'_>,
+    judged: &JudgedPolicy,
+) -> Result<String, AllocError> {
+    let stated = &judged.stated;
+    let sources = Sources::new(alloc, stated.claim.wired(), stated.lines.as_slice())?;
+    let manner = manner_of(alloc, read, showing)?;
+    waived_text(alloc, &sources, &manner, judged)
+}
+
+/// Whether what is asked of a holding is told beside attacks.
+fn is_beside(demand: &Demand) -> bool
+    ensures { result ≡ heads.is_beside demand.now }
+{
+    is_waived(demand) || is_expected(demand)
+}
+
+/// Whether something is told beside attacks.
+fn has_beside(told: &[Demand]) -> bool
+    ensures { result ≡ list_any heads.is_beside told.now }
+{
+    told.iter().any(|demand| is_beside(demand))
+}
+
+/// The text of attacks, and of what is told beside them.
+fn attacked_text(
+    alloc: Global,
+    showing: Showing,
+    read: &WasRead<'_>,
+    attacked: &Attacked,
+) -> Result<String, AllocError>
+    ensures { list_any heads.is_beside attacked.now.told.items ≡ false
+        → IfOk result (λ text. string_bytes text
+        ≡ attacks_text (verified.form_of attacked.now.only) attacked.now.stated.claim.table
+        attacked.now.found.items) }
+{
+    let stated = &attacked.stated;
+    let listing = form_of(attacked.only);
+    if has_beside(attacked.told.as_slice()) {
+        let sources = Sources::new(alloc, stated.claim.wired(), stated.lines.as_slice())?;
+        let manner = manner_of(alloc, read, showing)?;
+        return attacks_and_told(alloc, &sources, &manner, listing, attacked);
+    }
+    attacks_text(
+        alloc,
+        stated.claim.wired(),
+        listing,
+        attacked.found.as_slice(),
+    )
 }
 
 /// A script is printed by itself if one line is asked for.
@@ -144,16 +203,11 @@ pub(crate) fn answer_text(
     match answer {
         Answer::Yes => String::from_str(alloc, "YES\n"),
         Answer::Broken(broken) => broken_text(alloc, asked.showing(), read, broken),
-        Answer::Refused(refused) => reason_line(alloc, refused.claim.wired(), refused.why),
-        Answer::Attacks(attacked) => {
-            let wired = attacked.stated.claim.wired();
-            attacks_text(
-                alloc,
-                wired,
-                form_of(attacked.only),
-                attacked.found.as_slice(),
-            )
+        Answer::Refused(refused) => {
+            reason_line(alloc, refused.claim.wired(), policy_text(read), refused.why)
         }
+        Answer::Waived(judged) => yes_text(alloc, asked.showing(), read, judged),
+        Answer::Attacks(attacked) => attacked_text(alloc, asked.showing(), read, attacked),
         Answer::Mends(answer) => mends_text(alloc, wiring_text(read), answer),
         Answer::Made(count) => format!(in alloc; "facts {count}\n"),
         Answer::NoChain(_) | Answer::NoDrawing(_) => String::from_str(alloc, "none\n"),

@@ -6,7 +6,9 @@ ghost use Rattle.mrc_print.specs.Silence.{HasNoNames, AreNone};
 
 use crate::dead_notices::{Printed, dead_text};
 use crate::reading::{defs_name, policy_name, wiring_name};
-use mrc_answer::{Answer, Answered, LeakyLine, Notices, Notification, PlainLine, Reply, WasRead};
+use mrc_answer::{
+    Answer, Answered, DemandNotices, LeakyLine, Notices, Notification, PlainLine, Reply, WasRead,
+};
 use mrc_base::{ClassId, PortRight, TaskId};
 use mrc_command::shown;
 use mrc_wiring::{Wired, kind_word};
@@ -312,7 +314,70 @@ fn trusted_line(alloc: Global, file: &str, names: &[String]) -> Result<String, A
     line_of(alloc, file, text.as_str())
 }
 
-/// The lines that name parts of the wiring.
+/// The line of a policy that expects nothing, if it is one.
+fn expects_line(alloc: Global, policy: &str, expects_nothing: bool) -> Result<String, AllocError>
+    ensures { IfOk result (λ line. string_bytes line ≡ [] → expects_nothing ≡ false) }
+{
+    if expects_nothing {
+        line_of(alloc, policy, "expects nothing")
+    } else {
+        Ok(String::new(alloc))
+    }
+}
+
+/// The first lines that waive nothing, and how many more there are.
+#[tactic(auto, using(crate::proofs::EmptyLaws::first_empty, crate::proofs::EmptyLaws::rest_empty))]
+fn idle_lines(alloc: Global, policy: &str, idle: &[u32]) -> Result<String, AllocError>
+    ensures { IfOk result (λ text. string_bytes text ≡ [] → idle.now ≡ []) }
+{
+    let Some((first, further)) = idle.split_first() else {
+        return Ok(String::new(alloc));
+    };
+    let first = line_at(alloc, policy, *first as usize, "waives nothing")?;
+    let further: String = further
+        .iter()
+        .take(MOST_LINES - 1)
+        .map(|one| line_at(alloc, policy, *one as usize, "waives nothing"))
+        .try_collect(alloc)?;
+    let more = more_line(
+        alloc,
+        policy,
+        "1 more line waives nothing",
+        " more lines waive nothing",
+        idle.len(),
+    )?;
+    joined(alloc, first.as_str(), further.as_str(), more.as_str())
+}
+
+/// The line of facts that are expected and not judged, if there are some.
+fn unjudged_line(alloc: Global, policy: &str, count: usize) -> Result<String, AllocError>
+    ensures { IfOk result (λ line. string_bytes line ≡ [] → count ≡ 0) }
+{
+    match count {
+        0 => Ok(String::new(alloc)),
+        1 => line_of(alloc, policy, "1 expected fact is not judged: use verify"),
+        count => {
+            let text = format!(in alloc; "{count} expected facts are not judged: use verify")?;
+            line_of(alloc, policy, text.as_str())
+        }
+    }
+}
+
+/// What is told of a policy of version 3.
+#[tactic(auto, using(crate::proofs::EmptyLaws::first_empty, crate::proofs::EmptyLaws::rest_empty))]
+fn demand_lines(alloc: Global, policy: &str, demands: &DemandNotices) -> Result<String, AllocError>
+    ensures expects { IfOk result (λ text.
+        string_bytes text ≡ [] → demands.now.expects_nothing ≡ false) }
+    ensures idle { IfOk result (λ text. string_bytes text ≡ [] → demands.now.idle ≡ []) }
+    ensures unjudged { IfOk result (λ text. string_bytes text ≡ [] → demands.now.unjudged ≡ 0) }
+{
+    let expects = expects_line(alloc, policy, demands.expects_nothing)?;
+    let idle = idle_lines(alloc, policy, demands.idle.as_slice())?;
+    let unjudged = unjudged_line(alloc, policy, demands.unjudged)?;
+    joined(alloc, expects.as_str(), idle.as_str(), unjudged.as_str())
+}
+
+/// The lines that name parts of the wiring, and those of a policy of version 3.
 #[tactic(auto, using(crate::proofs::EmptyLaws::first_empty, crate::proofs::EmptyLaws::rest_empty))]
 fn named_lines(
     alloc: Global,
@@ -324,18 +389,26 @@ fn named_lines(
     ensures leaky { IfOk result (λ text. string_bytes text ≡ [] → notices.now.leaky ≡ []) }
     ensures dead { IfOk result (λ text.
         string_bytes text ≡ [] → notices.now.dead ≡ no_dead_parts) }
+    ensures expects { IfOk result (λ text.
+        string_bytes text ≡ [] → notices.now.demands.expects_nothing ≡ false) }
+    ensures idle { IfOk result (λ text. string_bytes text ≡ [] → notices.now.demands.idle ≡ []) }
+    ensures unjudged { IfOk result (λ text.
+        string_bytes text ≡ [] → notices.now.demands.unjudged ≡ 0) }
 {
     let policy = policy_name(read);
     let plain = plain_lines(alloc, wired, policy, notices.plain.as_slice())?;
     let leaky = leaky_lines(alloc, wired, policy, notices.leaky.as_slice())?;
+    let demands = demand_lines(alloc, policy, &notices.demands)?;
     let dead = dead_text(alloc, &Printed { read, wired }, &notices.dead)?;
-    joined(alloc, plain.as_str(), leaky.as_str(), dead.as_str())
+    let last = joined(alloc, demands.as_str(), dead.as_str(), "")?;
+    joined(alloc, plain.as_str(), leaky.as_str(), last.as_str())
 }
 
 /// The wiring of an answer: that of its system, or that of its notices.
 fn wired_of<'a>(reply: &'a Reply<'_>) -> Option<&'a Wired> {
     match &reply.answer {
         Answer::Broken(broken) => Some(broken.stated.claim.wired()),
+        Answer::Waived(judged) => Some(judged.stated.claim.wired()),
         Answer::Attacks(attacked) => Some(attacked.stated.claim.wired()),
         _ => reply.notices.wired.as_ref(),
     }

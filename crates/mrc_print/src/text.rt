@@ -5,15 +5,21 @@ ghost use Rattle.std.specs.List.{list_any};
 ghost use Rattle.std.specs.Option.{is_some};
 ghost use Rattle.mrc_answer.specs.Verified as verified;
 ghost use Rattle.mrc_answer.specs.Verified.{asked_task, IsAsked};
-ghost use Rattle.mrc_print.specs.Heads.{IsHead, HasNo, IsNo, IsNoIf};
+ghost use Rattle.mrc_print.specs.Heads.{IsHead, HasTold, IsTold, IsToldIf};
 
+use mrc_answer::{Attacked, JudgedPolicy};
+use mrc_attack::{Listing, attacks_text};
+use mrc_check::Demand;
 use mrc_command::shown;
-use mrc_objects::{Common, TextLines, common_of, is_asked};
+use mrc_objects::{Common, LineNames, TextLines, common_of, is_asked, unwaived};
 use mrc_why::{
-    Broken, Exposed, Layout, Sources, Step, Verdict, broken_line, chain_text, exposed_line,
+    Broken, Exposed, Layout, Sources, Step, Verdict, chain_text, exposed_line, forbidden_fact,
 };
+use mrc_wide_policy::Stance;
+use mrc_wiring::ForbiddenLine;
 use mrc_words::fact_text;
 use std::alloc::{AllocError, Global};
+use std::slice;
 
 /// How a `NO` is printed.
 #[derive(Drop)]
@@ -29,12 +35,13 @@ pub(crate) struct Manner<'a> {
 }
 
 /// What a text is made with: chains of which files, in which manner, and the number of a line, if
-/// broken lines of one number alone are asked for.
+/// what is told of one line alone is asked for. With the names of lines.
 #[derive(Drop)]
-struct Printing<'a> {
+struct Printing<'a, 'n> {
     alloc: Global,
     sources: &'a Sources<'a>,
     manner: &'a Manner<'a>,
+    names: &'a LineNames<'n>,
     only: Option<u32>,
 }
 
@@ -55,7 +62,7 @@ fn indented(alloc: Global, text: &str) -> Result<String, AllocError> {
 }
 
 /// A chain behind two blanks, if chains are printed.
-fn chain_if(printing: &Printing<'_>, steps: &[Step]) -> Result<String, AllocError> {
+fn chain_if(printing: &Printing<'_, '_>, steps: &[Step]) -> Result<String, AllocError> {
     let alloc = printing.alloc;
     match printing.manner.chains {
         Some(layout) => {
@@ -66,21 +73,78 @@ fn chain_if(printing: &Printing<'_>, steps: &[Step]) -> Result<String, AllocErro
     }
 }
 
-/// A broken line, its quote, and its chain.
-fn broken_part(printing: &Printing<'_>, broken: &Broken) -> Result<String, AllocError>
-    ensures { IfOk result (λ text. IsNo (string_bytes text)) }
+/// The name of the line of this number behind a blank, if it has one.
+fn name_word(printing: &Printing<'_, '_>, number: u32) -> Result<String, AllocError> {
+    match printing.names.name(number) {
+        Some(name) => format!(in printing.alloc; " \"{name}\""),
+        None => Ok(String::new(printing.alloc)),
+    }
+}
+
+/// A holding that is forbidden, its quote, and its chain.
+fn forbidden_part(
+    printing: &Printing<'_, '_>,
+    line: &ForbiddenLine,
+    steps: &[Step],
+) -> Result<String, AllocError>
+    ensures { IfOk result (λ text. IsTold (string_bytes text)) }
 {
     let alloc = printing.alloc;
-    let line = broken.line();
-    let head = broken_line(alloc, printing.sources.wired(), line)?;
-    let quote = quote(alloc, &printing.manner.policy, line.line)?;
-    let chain = chain_if(printing, broken.steps())?;
-    format!(in alloc; "{head}{quote}{chain}")
+    let number = line.line;
+    let name = name_word(printing, number)?;
+    let fact = fact_text(alloc, printing.sources.wired(), forbidden_fact(line))?;
+    let quote = quote(alloc, &printing.manner.policy, number)?;
+    let chain = chain_if(printing, steps)?;
+    format!(in alloc; "NO forbidden line {number}{name} {fact}\n{quote}{chain}")
+}
+
+/// A holding that is waived by the line of a number, and its quote.
+fn waived_part(
+    printing: &Printing<'_, '_>,
+    line: &ForbiddenLine,
+    waiver: u32,
+) -> Result<String, AllocError>
+    ensures { IfOk result (λ text. IsTold (string_bytes text)) }
+{
+    let alloc = printing.alloc;
+    let number = line.line;
+    let name = name_word(printing, number)?;
+    let fact = fact_text(alloc, printing.sources.wired(), forbidden_fact(line))?;
+    let reason = printing.names.reason(waiver);
+    let quote = quote(alloc, &printing.manner.policy, number)?;
+    format!(in alloc; "WAIVED line {number}{name} {fact} \"{reason}\"\n{quote}")
+}
+
+/// A holding that is expected and lacking, and its quote.
+fn expected_part(printing: &Printing<'_, '_>, line: &ForbiddenLine) -> Result<String, AllocError>
+    ensures { IfOk result (λ text. IsTold (string_bytes text)) }
+{
+    let alloc = printing.alloc;
+    let number = line.line;
+    let name = name_word(printing, number)?;
+    let fact = fact_text(alloc, printing.sources.wired(), forbidden_fact(line))?;
+    let quote = quote(alloc, &printing.manner.policy, number)?;
+    format!(in alloc; "NO expected line {number}{name} {fact}\n{quote}")
+}
+
+/// What is told of a demand; a holding that is forbidden has this chain.
+fn told_part(
+    printing: &Printing<'_, '_>,
+    demand: &Demand,
+    steps: &[Step],
+) -> Result<String, AllocError>
+    ensures { IfOk result (λ text. IsTold (string_bytes text)) }
+{
+    match demand.stance {
+        Stance::Forbidden => forbidden_part(printing, &demand.holding, steps),
+        Stance::Waived(waiver) => waived_part(printing, &demand.holding, waiver),
+        Stance::Expected => expected_part(printing, &demand.holding),
+    }
 }
 
 /// A trusted task that another could rewrite, its quote, and its chain.
-fn exposed_part(printing: &Printing<'_>, exposed: &Exposed) -> Result<String, AllocError>
-    ensures { IfOk result (λ text. IsNo (string_bytes text)) }
+fn exposed_part(printing: &Printing<'_, '_>, exposed: &Exposed) -> Result<String, AllocError>
+    ensures { IfOk result (λ text. IsTold (string_bytes text)) }
 {
     let alloc = printing.alloc;
     let head = exposed_line(alloc, printing.sources.wired(), exposed)?;
@@ -89,36 +153,58 @@ fn exposed_part(printing: &Printing<'_>, exposed: &Exposed) -> Result<String, Al
     format!(in alloc; "{head}{quote}{chain}")
 }
 
-/// A broken line that is asked for. Nothing, if it is not.
+/// A demand that is asked for. Nothing, if it is not.
 #[tactic(auto, using(crate::proofs::HeadLaws::asked_so))]
-fn part_if_asked(printing: &Printing<'_>, broken: &Broken) -> Result<String, AllocError>
+fn part_if_asked(
+    printing: &Printing<'_, '_>,
+    demand: &Demand,
+    steps: &[Step],
+) -> Result<String, AllocError>
     ensures { IfOk result (λ text.
-        IsNoIf (verified.is_asked printing.now.only broken.now) (string_bytes text)) }
+        IsToldIf (verified.is_asked printing.now.only demand.now) (string_bytes text)) }
 {
-    if is_asked(printing.only, broken) {
-        broken_part(printing, broken)
+    if is_asked(printing.only, demand) {
+        told_part(printing, demand, steps)
     } else {
         Ok(String::new(printing.alloc))
     }
 }
 
-/// The broken lines that are asked for, one after the other.
-fn broken_parts(printing: &Printing<'_>, broken: &[Broken]) -> Result<String, AllocError>
+/// The chain of a holding, if it is the first of these broken lines.
+fn chain_of<'a>(left: &'a [Broken], demand: &Demand) -> Option<(&'a [Step], &'a [Broken])> {
+    let (first, behind) = left.split_first()?;
+    if *first.line() == demand.holding {
+        Some((first.steps(), behind))
+    } else {
+        None
+    }
+}
+
+/// The demands that are told and asked for, one after the other, with the chains of these broken
+/// lines, which are in the same order.
+fn told_parts(
+    printing: &Printing<'_, '_>,
+    told: &[Demand],
+    broken: &[Broken],
+) -> Result<String, AllocError>
     ensures { IfOk result (λ text.
-        IsNoIf (list_any (verified.is_asked printing.now.only) broken.now) (string_bytes text)) }
+        IsToldIf (list_any (verified.is_asked printing.now.only) told.now) (string_bytes text)) }
 {
     let mut text = String::new(printing.alloc);
-    for line in broken {
-        let part = part_if_asked(printing, line)?;
+    let mut left = broken;
+    for demand in told {
+        let (steps, behind) = chain_of(left, demand).unwrap_or((&[], left));
+        left = behind;
+        let part = part_if_asked(printing, demand, steps)?;
         text.push_str(part.as_str())?;
     }
     Ok(text)
 }
 
 /// The trusted task, if there is one, unless lines of one number are asked for.
-fn task_part(printing: &Printing<'_>, exposed: &Option<Exposed>) -> Result<String, AllocError>
+fn task_part(printing: &Printing<'_, '_>, exposed: &Option<Exposed>) -> Result<String, AllocError>
     ensures { IfOk result (λ text.
-        IsNoIf (is_some (asked_task printing.now.only exposed.now)) (string_bytes text)) }
+        IsToldIf (is_some (asked_task printing.now.only exposed.now)) (string_bytes text)) }
 {
     if printing.only.is_some() {
         return Ok(String::new(printing.alloc));
@@ -131,7 +217,7 @@ fn task_part(printing: &Printing<'_>, exposed: &Option<Exposed>) -> Result<Strin
 
 /// The line of a fact that is found in chains of so many lines. Nothing, if none is.
 fn found_line(
-    printing: &Printing<'_>,
+    printing: &Printing<'_, '_>,
     lines: usize,
     found: Option<Common>,
 ) -> Result<String, AllocError>
@@ -147,7 +233,7 @@ fn found_line(
 }
 
 /// The line of what most chains have in common, if there is such a fact and it is to be named.
-fn common_if(printing: &Printing<'_>, broken: &[Broken]) -> Result<String, AllocError>
+fn common_if(printing: &Printing<'_, '_>, broken: &[&Broken]) -> Result<String, AllocError>
     ensures { IfOk result (λ text. IsHead (string_bytes text)) }
 {
     if !printing.manner.common {
@@ -159,42 +245,131 @@ fn common_if(printing: &Printing<'_>, broken: &[Broken]) -> Result<String, Alloc
     }
 }
 
-/// The text of what is asked for.
-fn text_of(
-    printing: &Printing<'_>,
-    exposed: &Option<Exposed>,
+/// The same of those broken lines that are not waived.
+fn unwaived_common(
+    printing: &Printing<'_, '_>,
+    told: &[Demand],
     broken: &[Broken],
 ) -> Result<String, AllocError>
-    ensures { IsAsked printing.now.only exposed.now broken.now
-        → IfOk result (λ text. HasNo (string_bytes text)) }
+    ensures { IfOk result (λ text. IsHead (string_bytes text)) }
 {
-    let common = common_if(printing, broken)?;
-    let task = task_part(printing, exposed)?;
-    let lines = broken_parts(printing, broken)?;
+    let unwaived = unwaived(printing.alloc, told, broken)?;
+    common_if(printing, &unwaived)
+}
+
+/// The text of what is asked for.
+fn text_of(
+    printing: &Printing<'_, '_>,
+    verdict: &Verdict,
+    told: &[Demand],
+) -> Result<String, AllocError>
+    ensures { IsAsked printing.now.only verdict.now.exposed told.now
+        → IfOk result (λ text. HasTold (string_bytes text)) }
+{
+    let broken = verdict.broken.as_slice();
+    let common = unwaived_common(printing, told, broken)?;
+    let task = task_part(printing, &verdict.exposed)?;
+    let lines = told_parts(printing, told, broken)?;
     let text = format!(in printing.alloc; "{common}{task}{lines}")?;
     Ok(text)
 }
 
-/// What is printed of a verdict that is no yes: the trusted task that another could rewrite, and
-/// each broken line; or those broken lines alone that have the number which is asked for. Behind
-/// each come its quote and its chain, as is asked for, and before all the fact that most chains
-/// have in common.
+/// What is printed of a policy that is broken: the trusted task that another could rewrite, and
+/// what is told of its demands; or what is told of one line alone. Behind each come its quote and
+/// its chain, as is asked for, and before all the fact that most chains have in common.
 pub(crate) fn no_text(
     alloc: Global,
     sources: &Sources<'_>,
     manner: &Manner<'_>,
-    only: Option<u32>,
-    verdict: &Verdict,
+    judged: &JudgedPolicy,
 ) -> Result<String, AllocError>
-    // If something is asked for, the text begins with `NO `, behind the line of a common fact.
-    ensures { IsAsked only verdict.now.exposed verdict.now.broken.items
-        → IfOk result (λ text. HasNo (string_bytes text)) }
+    // If something is asked for, the text begins with `NO ` or `WAIVED `, behind the line of a
+    // common fact.
+    ensures { IsAsked judged.now.only judged.now.verdict.exposed judged.now.told.items
+        → IfOk result (λ text. HasTold (string_bytes text)) }
 {
+    let names = LineNames::of(alloc, &judged.stated.stands)?;
     let printing = Printing {
         alloc,
         sources,
         manner,
-        only,
+        names: &names,
+        only: judged.only,
     };
-    text_of(&printing, &verdict.exposed, verdict.broken.as_slice())
+    text_of(&printing, &judged.verdict, judged.told.as_slice())
+}
+
+/// What is printed of a yes besides what is waived.
+pub(crate) fn waived_text(
+    alloc: Global,
+    sources: &Sources<'_>,
+    manner: &Manner<'_>,
+    judged: &JudgedPolicy,
+) -> Result<String, AllocError> {
+    let names = LineNames::of(alloc, &judged.stated.stands)?;
+    let printing = Printing {
+        alloc,
+        sources,
+        manner,
+        names: &names,
+        only: judged.only,
+    };
+    let lines = told_parts(&printing, judged.told.as_slice(), &[])?;
+    format!(in alloc; "{lines}YES\n")
+}
+
+/// What is told of a demand beside attacks: that a holding is waived, or expected and lacking. By
+/// itself a script has it as a comment.
+fn beside_attacks(
+    printing: &Printing<'_, '_>,
+    listing: Listing,
+    demand: &Demand,
+) -> Result<String, AllocError> {
+    let part = part_if_asked(printing, demand, &[])?;
+    match listing {
+        Listing::Listed => Ok(part),
+        Listing::Script if part.is_empty() => Ok(part),
+        Listing::Script => format!(in printing.alloc; "# {part}"),
+    }
+}
+
+/// Attacks, and between them what is told beside them, in the order of the policy.
+pub(crate) fn attacks_and_told(
+    alloc: Global,
+    sources: &Sources<'_>,
+    manner: &Manner<'_>,
+    listing: Listing,
+    attacked: &Attacked,
+) -> Result<String, AllocError> {
+    let wired = attacked.stated.claim.wired();
+    let names = LineNames::of(alloc, &attacked.stated.stands)?;
+    let printing = Printing {
+        alloc,
+        sources,
+        manner,
+        names: &names,
+        only: attacked.only,
+    };
+    let mut text = String::new(alloc);
+    let mut left = attacked.found.as_slice();
+    if let Some((first, behind)) = left.split_first() {
+        if first.aim.trusted {
+            let part = attacks_text(alloc, wired, listing, slice::from_ref(first))?;
+            text.push_str(part.as_str())?;
+            left = behind;
+        }
+    }
+    for demand in attacked.told.as_slice() {
+        if demand.stance != Stance::Forbidden {
+            let part = beside_attacks(&printing, listing, demand)?;
+            text.push_str(part.as_str())?;
+        } else if is_asked(attacked.only, demand) {
+            if let Some((one, behind)) = left.split_first() {
+                let part = attacks_text(alloc, wired, listing, slice::from_ref(one))?;
+                text.push_str(part.as_str())?;
+                left = behind;
+            }
+        }
+    }
+    Ok(text)
 }

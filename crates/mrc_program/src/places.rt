@@ -6,8 +6,8 @@ use mrc_base::OrMemory;
 use mrc_certificate::DraftFault;
 use mrc_check::{CaseFault, PolicyFault, WiringFault};
 use mrc_hints::{
-    mig_hint, names_hint, policy_name_hint, script_hint, stand_hint, wide_line_hint,
-    wide_name_hint, wiring_name_hint,
+    mig_hint, names_hint, policy_name_hint, policy_stand_hint, script_hint, stand_hint,
+    wide_line_hint, wide_name_hint, wide_policy_line_hint, wiring_name_hint,
 };
 use mrc_interface::FileFault;
 use mrc_line_hints::{policy_line_hint, wiring_line_hint};
@@ -15,7 +15,7 @@ use mrc_objects::expanded_text;
 use mrc_place::{Hint, one_note};
 use mrc_wide_text::read_said;
 use mrc_wiring::{ClaimFault, ResolveFault};
-use mrc_wiring_text::{Edition, TextFault, wiring_edition};
+use mrc_wiring_text::{Edition, TextFault, read_policy, wiring_edition};
 use std::alloc::{AllocError, Global};
 use std::str;
 
@@ -139,18 +139,50 @@ fn policy_names_hint(
     Ok(Some(hint))
 }
 
+/// Whether the text of a policy names a version that is none of 1 and 2.
+fn is_wide_policy(alloc: Global, policy: &[u8]) -> Result<bool, AllocError> {
+    match read_policy(alloc, policy) {
+        Ok(_) => Ok(false),
+        Err(OrMemory::Fault(fault)) => Ok(fault == TextFault::Version),
+        Err(OrMemory::Memory) => Err(AllocError),
+    }
+}
+
+/// What helps with a line of a policy of version 3 that is refused.
+fn wide_policy_hint(
+    alloc: Global,
+    texts: &Texts,
+    fault: PolicyFault,
+) -> Result<Option<Hint>, AllocError> {
+    let Ok(text) = str::from_utf8(texts.policy()) else {
+        return Ok(None);
+    };
+    let hint = match fault {
+        PolicyFault::Text(TextFault::BadLine(line)) => wide_policy_line_hint(alloc, text, line)?,
+        PolicyFault::Stands(fault) => policy_stand_hint(alloc, text, fault)?,
+        PolicyFault::Text(_) | PolicyFault::Lines(_) => return Ok(None),
+    };
+    Ok(Some(hint))
+}
+
 /// What helps with a fault of the policy.
 fn policy_hint(
     alloc: Global,
     texts: &Texts,
     fault: PolicyFault,
 ) -> Result<Option<Hint>, AllocError> {
+    if is_wide_policy(alloc, texts.policy())? {
+        if let Some(hint) = wide_policy_hint(alloc, texts, fault)? {
+            return Ok(Some(hint));
+        }
+    }
     match fault {
         PolicyFault::Text(fault) => {
             let hint = policy_line_hint(alloc, texts.policy(), fault)?;
             Ok(Some(hint))
         }
         PolicyFault::Lines(fault) => policy_names_hint(alloc, texts, fault),
+        PolicyFault::Stands(_) => Ok(None),
     }
 }
 

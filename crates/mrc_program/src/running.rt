@@ -224,6 +224,9 @@ fn are_none(notices: &Notices) -> bool
         && notices.cut_before.is_empty()
         && notices.notification.is_none()
         && !notices.is_empty_policy
+        && !notices.demands.expects_nothing
+        && notices.demands.idle.is_empty()
+        && notices.demands.unjudged == 0
         && notices.plain.is_empty()
         && notices.leaky.is_empty()
         && notices.dead.is_none()

@@ -2,6 +2,7 @@
 use Rattle.std.proofs.Common.{◌≡◌, ◌+◌, ◌<◌, ◌&&◌, ◌||◌, ℕ, Bool, true, false, List, []}
 use Rattle.std.proofs.Common.{◌∷◌, length, get_or, refl, sym, ap, ◌∙◌, subst, arith, Contains}
 use Rattle.std.proofs.Common.{Ok, Err}
+use Rattle.std.proofs.Math.Bool.{or-false}
 use Rattle.std.specs.Prelude.{not, bytes_eq, nat_eq, if◌then◌else◌}
 use Rattle.std.specs.List.{range_with_len}
 use Rattle.std.proofs.lemmas.Slice.Eq.{bytes_eq-Decides}
@@ -34,15 +35,11 @@ chosen false fault x y e = cc
 filled_is : {A : Type 0} (n : ℕ) (xs ys : List A) → filled n xs ≡ Ok ys → xs ≡ ys
 filled_is n xs ys e = chosen (nat_eq (length xs) 0) (Empty n) xs ys e
 
-or_false : (b : Bool) → (b || false) ≡ b
-or_false true = refl
-or_false false = refl
-
 pub others_are_not_the_holder : OthersAreNotTheHolder
 others_are_not_the_holder = λ known n holder others name is.
     ap (is_among name) (sym (filled_is n (all_but known (holder ∷ [])) others is))
     ∙ all_but_are_the_others known (holder ∷ []) name
-    ∙ ap (λ b. not b && is_among name known.tasks) (or_false (bytes_eq name holder))
+    ∙ ap (λ b. not b && is_among name known.tasks) (or-false (bytes_eq name holder))
 
 -- a number below n is among the first n numbers
 number_in : (n k : ℕ) → k < n → Contains (range_with_len 0 n) k

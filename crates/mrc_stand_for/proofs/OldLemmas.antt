@@ -1,5 +1,6 @@
 -- Lines of one name in each list.
-use Rattle.std.proofs.Common.{◌≡◌, ◌||◌, Bool, true, false, [], ◌∷◌, refl, ap}
+use Rattle.std.proofs.Common.{◌≡◌, false, [], ◌∷◌, refl, ap}
+use Rattle.std.proofs.Math.Bool.{or-false}
 use Rattle.mrc_wiring_text.specs.declared.wiring.HeldRight.TheVariants as held
 use Rattle.mrc_wiring_text.specs.declared.wiring.WiringSays.TheVariants as core
 use Rattle.mrc_stand_for.specs.declared.known.Known.{Known}
@@ -7,13 +8,9 @@ use Rattle.mrc_stand_for.specs.OldLaws.{BirthsOfOneTask, SendOfOneTask, OnceOfOn
 use Rattle.mrc_stand_for.specs.OldLaws.{KernelOfOneTask}
 use Rattle.mrc_stand_for.specs.Standing.{closing, stands}
 
-or_false : (b : Bool) → (b || false) ≡ b
-or_false true = refl
-or_false false = refl
-
 -- a line that names no list of all tasks closes none
 same_known : (known : Known) → closing false known ≡ known
-same_known known = ap (λ b. record known { closed = b }) (or_false known.closed)
+same_known known = ap (λ b. record known { closed = b }) (or-false known.closed)
 
 pub births_of_one_task : BirthsOfOneTask
 births_of_one_task = λ known n task kind accepts there.

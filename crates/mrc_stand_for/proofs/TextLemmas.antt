@@ -8,6 +8,7 @@ use Rattle.mrc_base.specs.declared.PortRight.{PortRight}
 use Rattle.mrc_base.specs.declared.PortRight.TheVariants as right
 use Rattle.mrc_base.proofs.Steps.{bind_ok, not_stopped}
 use Rattle.mrc_wiring_text.specs.declared.items.Item.{Item}
+use Rattle.mrc_wiring_text.specs.declared.policy.ClassName.{ClassName}
 use Rattle.mrc_wiring_text.specs.declared.policy.ClassName.TheVariants as class
 use Rattle.mrc_wiring_text.specs.declared.reading.Line.{Line}
 use Rattle.mrc_wiring_text.specs.declared.wiring.WiringSays.{WiringSays}
@@ -29,6 +30,7 @@ use Rattle.mrc_stand_for.specs.declared.wide.WideSays.TheVariants as says
 use Rattle.mrc_stand_for.specs.Once.{is_among, with_each, same_verb, same_right}
 use Rattle.mrc_stand_for.specs.Known.{has_group, has_set, has_kind, has_named}
 use Rattle.mrc_stand_for.specs.Lists.{tasks_of, classes_of, ports_of}
+use Rattle.mrc_stand_for.specs.Expected.{expected_classes}
 use Rattle.mrc_stand_for.specs.ListLaws.{AllAreOfTheText}
 use Rattle.mrc_stand_for.specs.Products.{verb_of, trust_lines}
 use Rattle.mrc_stand_for.specs.Standing.{names_all, class_names_all, place_names_all, closing}
@@ -77,9 +79,9 @@ keeps_group known more n name tasks is =
     (chosen (is_among name known.tasks || has_group known name) (TwiceNamed n) _ more is)
     (record { tasks = refl; closed = λ h. h })
 
-keeps_set : (known more : Known) (n : ℕ) (name : List ℕ) (found : Found)
-    → add_set known n name found ≡ Ok more → Keeps known more
-keeps_set known more n name found is =
+keeps_set : (known more : Known) (n : ℕ) (name : List ℕ) (found : Found) (bare : List ClassName)
+    → add_set known n name found bare ≡ Ok more → Keeps known more
+keeps_set known more n name found bare is =
     subst (Keeps known) (chosen (has_set known name) (TwiceNamed n) _ more is)
     (record { tasks = refl; closed = λ h. h })
 
@@ -138,11 +140,12 @@ keeps_set_line : (known : Known) (n : ℕ) (set : List ℕ) (classes : List Wide
     → set_stands known n set classes ≡ Ok st → Keeps known st.known
 keeps_set_line known n set classes st is =
     let b = bind_ok (classes_of known n None classes) _ st is in
-    let m = bind_ok (add_set known n set b.0) _ st b.2 in
+    let e = bind_ok (expected_classes known n None classes) _ st b.2 in
+    let m = bind_ok (add_set known n set b.0 e.0) _ st e.2 in
     let all = list_any class_names_all classes in
     keeps_stands known (closing all (naming b.0 m.0)) [] st m.2
     (keeps_on known (naming b.0 m.0) (closing all (naming b.0 m.0))
-    (keeps_on known m.0 (naming b.0 m.0) (keeps_set known m.0 n set b.0 m.1)
+    (keeps_on known m.0 (naming b.0 m.0) (keeps_set known m.0 n set b.0 e.0 m.1)
     (keeps_naming m.0 b.0)) (keeps_closing (naming b.0 m.0) all))
 
 keeps_member_line : (known : Known) (n : ℕ) (port task : List ℕ) (kind : ℕ) (st : Stands)

@@ -2,6 +2,7 @@ pub mod Once
 pub mod Known
 pub mod Steps
 pub mod Lists
+pub mod Expected
 pub mod Products
 pub mod Standing
 pub mod Policies

@@ -2,7 +2,7 @@
 -- is refused. This profile's own choice.
 use Rattle.std.specs.Prelude.{ℕ, ◌+◌, Bool, true, false, ◌||◌, not, ◌&&◌, nat_le, nat_lt, bytes_eq}
 use Rattle.std.specs.Prelude.{List, [], ◌∷◌, ◌++◌, map, length, Option, Some, None, Result, Ok, Err}
-use Rattle.std.specs.Prelude.{◌≡◌, if◌then◌else◌}
+use Rattle.std.specs.Prelude.{◌≡◌, fold, if◌then◌else◌}
 use Rattle.std.specs.List.{list_any}
 use Rattle.mrc_base.specs.Limits.{limit_of_kinds}
 use Rattle.mrc_base.specs.Reading.{◌>>=◌, Refuses}
@@ -11,6 +11,7 @@ use Rattle.mrc_base.specs.declared.memory.OrMemory.TheVariants.{Fault, Memory}
 use Rattle.mrc_base.specs.declared.PortRight.{PortRight}
 use Rattle.mrc_base.specs.declared.PortRight.TheVariants as right
 use Rattle.mrc_wiring_text.specs.declared.items.Item.{Item}
+use Rattle.mrc_wiring_text.specs.declared.policy.ClassName.{ClassName}
 use Rattle.mrc_wiring_text.specs.declared.policy.ClassName.TheVariants as class
 use Rattle.mrc_wiring_text.specs.declared.reading.Line.{Line}
 use Rattle.mrc_wiring_text.specs.declared.wiring.WiringSays.{WiringSays}
@@ -41,6 +42,7 @@ use Rattle.mrc_stand_for.specs.Once.{same_right}
 use Rattle.mrc_stand_for.specs.Known.{no_lines, has_group, has_set, births_said, has_kind}
 use Rattle.mrc_stand_for.specs.Known.{has_member, has_named}
 use Rattle.mrc_stand_for.specs.Lists.{tasks_of, classes_of, places_of, ports_of}
+use Rattle.mrc_stand_for.specs.Expected.{expected_classes}
 use Rattle.mrc_stand_for.specs.Products.{births_lines, replies_lines, send_line, once_lines}
 use Rattle.mrc_stand_for.specs.Products.{admit_lines, admit_none, verb_of, trust_lines, none_lines}
 use Rattle.mrc_stand_for.specs.Steps.{each}
@@ -105,11 +107,12 @@ add_group known n name tasks =
     else Ok (record known { groups = known.groups ++ record { name = name; tasks = tasks } ∷ [] })
 
 -- one set more, of a new name
-abbrev pub add_set : Known → ℕ → List ℕ → Found → Result Known StandFault
-add_set known n name found =
+abbrev pub add_set : Known → ℕ → List ℕ → Found → List ClassName → Result Known StandFault
+add_set known n name found bare =
     if has_set known name then Err (TwiceNamed n)
     else Ok (record known {
-      sets = known.sets ++ record { name = name; classes = found.classes } ∷ [];
+      sets = known.sets
+          ++ record { name = name; classes = found.classes; bare = bare } ∷ [];
     })
 
 -- what the births that a line names accept, or nothing
@@ -151,7 +154,8 @@ group_stands known n group tasks = do
 abbrev pub set_stands : Known → ℕ → List ℕ → List WideClass → Result Stands StandFault
 set_stands known n set classes = do
   found ← classes_of known n None classes
-  more ← add_set known n set found
+  bare ← expected_classes known n None classes
+  more ← add_set known n set found bare
   stands (closing (list_any class_names_all classes) (naming found more)) []
 
 -- `port P of births T K`
@@ -253,6 +257,14 @@ known_after known (core.Births task kind accepts) = record known {
   births = known.births ++ record { task = task; kind = kind; accepts = accepts } ∷ [];
 }
 known_after known _ = known
+
+-- the same of a line of a text
+abbrev pub known_with : Known → Line WiringSays → Known
+known_with known line = known_after known line.says
+
+-- what is known after the lines of a text of an older version
+abbrev pub known_of : List (Line WiringSays) → Known
+known_of lines = fold known_with no_lines lines
 
 -- the lines in front of the first that is refused, and why it is
 abbrev pub stopped : Standing → StandFault → StandsFor

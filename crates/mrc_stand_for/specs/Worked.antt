@@ -1,7 +1,8 @@
 -- Worked. Wirings and what they stand for: those of tasks, groups, sets and products, one whole
 -- system, and the smallest wiring of each refusal. Each line has its number in a text whose first
 -- line is the heading.
-use Rattle.std.specs.Prelude.{◌≡◌, ℕ, ◌+◌, List, [], ◌∷◌, ◌++◌, Option, Some, None, codes, refl, map}
+use Rattle.std.specs.Prelude.{◌≡◌, ℕ, ◌+◌, List, [], ◌∷◌, ◌++◌, Option, Some, None, codes, refl}
+use Rattle.std.specs.Prelude.{map, Result, Ok, Err}
 use Rattle.std.specs.Result.{result_err}
 use Rattle.mrc_base.specs.declared.PortRight.{PortRight}
 use Rattle.mrc_base.specs.declared.PortRight.TheVariants as right
@@ -17,6 +18,8 @@ use Rattle.mrc_wiring_text.specs.declared.wiring.WiringSays.TheVariants as core
 use Rattle.mrc_stand_for.specs.declared.faults.StandFault.{StandFault}
 use Rattle.mrc_stand_for.specs.declared.faults.StandFault.TheVariants.{BadLine, UnknownName, Empty}
 use Rattle.mrc_stand_for.specs.declared.faults.StandFault.TheVariants.{Late, TwiceNamed}
+use Rattle.mrc_stand_for.specs.declared.known.ClassSet.{ClassSet}
+use Rattle.mrc_stand_for.specs.declared.known.Known.{Known}
 use Rattle.mrc_stand_for.specs.declared.wide.Kinds.TheVariants as kinds
 use Rattle.mrc_stand_for.specs.declared.wide.Place.TheVariants as place
 use Rattle.mrc_stand_for.specs.declared.wide.RightVerb.TheVariants as verbs
@@ -31,7 +34,8 @@ use Rattle.mrc_stand_for.specs.declared.wide.WideSays.TheVariants.{HoldOnce, Adm
 use Rattle.mrc_stand_for.specs.declared.wide.WideSays.TheVariants.{TrustReplies, TrustNone}
 use Rattle.mrc_stand_for.specs.declared.wide.WideSays.TheVariants.{RepliesFit}
 use Rattle.mrc_stand_for.specs.declared.wide.Whom.TheVariants as whom
-use Rattle.mrc_stand_for.specs.Standing.{stand_for}
+use Rattle.mrc_stand_for.specs.Known.{no_lines}
+use Rattle.mrc_stand_for.specs.Standing.{stand_for, known_of}
 
 -- lines, the first of which has number n
 abbrev lines : ℕ → List WideSays → List (Line WideSays)
@@ -127,6 +131,36 @@ pub members : stood (lines 2 (
     ∷ gives_once b (class.Births a 0) ∷ gives_once b (class.Births a 1)
     ∷ gives_once b (class.Port p) ∷ []))
 members = refl
+
+-- the sets that are known after lines, if none is refused
+abbrev sets_in : Result Known StandFault → List ClassSet
+sets_in (Ok known) = known.sets
+sets_in (Err fault) = []
+
+-- a set, and its classes as a line that expects has them
+abbrev with_bare : List ℕ → List ClassName → List ClassName → ClassSet
+with_bare name classes bare = record { name = name; classes = classes; bare = bare }
+
+-- `task a`, `births a 1 accepts none`, `port p of births a 1`, `set s births a 1`,
+-- `set q births a 1, port p`, `set u s`
+pub sets : sets_in (stand_for (lines 2 (
+    Task (a ∷ []) ∷ Births (tasks.Listed (a ∷ [])) 1 [] ∷ PortOf p a 1
+    ∷ Set s (of_kind a 1 ∷ []) ∷ Set q (of_kind a 1 ∷ wide.Port p ∷ [])
+    ∷ Set u (wide.Set s ∷ []) ∷ []))).end
+    ≡ with_bare s (class.Births a 1 ∷ class.Port p ∷ []) (class.Births a 1 ∷ [])
+    ∷ with_bare q (class.Births a 1 ∷ class.Port p ∷ []) (class.Births a 1 ∷ class.Port p ∷ [])
+    ∷ with_bare u (class.Births a 1 ∷ class.Port p ∷ []) (class.Births a 1 ∷ []) ∷ []
+sets = refl
+
+-- `task a`, `port p receiver a accepts none`, `births a 1 accepts destroyed`, in an older version
+pub known_after_older : known_of (of 2 (
+    core.Task a ∷ core.Port p a [] ∷ core.Births a 1 (Destroyed ∷ []) ∷ []))
+    ≡ record no_lines {
+      tasks = a ∷ [];
+      ports = p ∷ [];
+      births = record { task = a; kind = 1; accepts = Destroyed ∷ [] } ∷ [];
+    }
+known_after_older = refl
 
 -- `task a, b`, `births all 8 replies s, ns`, `births b 1 accepts request s, ns, reply s, ns,
 -- destroyed`

@@ -11,7 +11,7 @@ ghost use Rattle.mrc_stand_for.specs.Known.{kind_classes};
 ghost use Rattle.mrc_stand_for.specs.Known.{births_classes, all_births, has_member, has_group};
 ghost use Rattle.mrc_stand_for.specs.Known.{has_set, has_named, no_lines};
 
-use crate::several::{Alike, Several, copy_kind};
+use crate::several::{Alike, Copied, Several, copies, copy_items, copy_kind};
 use mrc_base::limits::KINDS;
 use mrc_wiring_text::{ClassName, Items, Kind, Name};
 use std::alloc::{AllocError, Global};
@@ -32,6 +32,8 @@ pub(crate) struct ClassSet {
     pub name: Name,
     /// Its classes.
     pub classes: Several<ClassName>,
+    /// Its classes as a line that expects has them.
+    pub bare: Several<ClassName>,
 }
 
 /// Births that a line names.
@@ -54,6 +56,51 @@ pub(crate) struct Member {
     pub task: Name,
     /// The kind of the births.
     pub kind: Kind,
+}
+
+impl Copied for Group {
+    fn copy(&self, alloc: Global) -> Result<Group, AllocError> {
+        let name = self.name.copy(alloc)?;
+        let tasks = copies(alloc, self.tasks.as_slice())?;
+        Ok(Group { name, tasks })
+    }
+}
+
+impl Copied for ClassSet {
+    fn copy(&self, alloc: Global) -> Result<ClassSet, AllocError> {
+        let name = self.name.copy(alloc)?;
+        let classes = copies(alloc, self.classes.as_slice())?;
+        let bare = copies(alloc, self.bare.as_slice())?;
+        Ok(ClassSet {
+            name,
+            classes,
+            bare,
+        })
+    }
+}
+
+impl Copied for KnownBirths {
+    fn copy(&self, alloc: Global) -> Result<KnownBirths, AllocError> {
+        let task = self.task.copy(alloc)?;
+        let accepts = copy_items(alloc, &self.accepts)?;
+        Ok(KnownBirths {
+            task,
+            kind: copy_kind(&self.kind),
+            accepts,
+        })
+    }
+}
+
+impl Copied for Member {
+    fn copy(&self, alloc: Global) -> Result<Member, AllocError> {
+        let port = self.port.copy(alloc)?;
+        let task = self.task.copy(alloc)?;
+        Ok(Member {
+            port,
+            task,
+            kind: copy_kind(&self.kind),
+        })
+    }
 }
 
 /// What is known of the lines above: what lists of a line below can name.
@@ -114,6 +161,23 @@ impl Known {
             closed_kinds: Several::empty(alloc),
             named: Several::empty(alloc),
         }
+    }
+
+    /// The same.
+    pub fn copy(&self, alloc: Global) -> Result<Known, AllocError>
+        ensures { IfOk result (λ copy. copy ≡ self.now) }
+    {
+        Ok(Known {
+            tasks: copies(alloc, self.tasks.as_slice())?,
+            groups: copies(alloc, self.groups.as_slice())?,
+            sets: copies(alloc, self.sets.as_slice())?,
+            ports: copies(alloc, self.ports.as_slice())?,
+            births: copies(alloc, self.births.as_slice())?,
+            members: copies(alloc, self.members.as_slice())?,
+            closed: self.closed,
+            closed_kinds: copies(alloc, self.closed_kinds.as_slice())?,
+            named: copies(alloc, self.named.as_slice())?,
+        })
     }
 
     /// Whether a line declares the task.

@@ -7,7 +7,7 @@ ghost use Rattle.mrc_stand_for.specs.ListLaws.{AllButAreTheOthers, OthersAreNotT
 ghost use Rattle.mrc_stand_for.specs.OldLaws.{BirthsOfOneTask, SendOfOneTask, OnceOfOneTask};
 ghost use Rattle.mrc_stand_for.specs.OldLaws.{KernelOfOneTask};
 ghost use Rattle.mrc_stand_for.specs.ListLaws.{AnyHasEachKind, AllAreOfTheText};
-ghost use Rattle.mrc_stand_for.specs.PolicyLaws.{PoliciesStandForThemselves};
+ghost use Rattle.mrc_stand_for.specs.PolicyLaws.{ClassesStandForThemselves};
 
 /// What lists that leave tasks out have, and `any`.
 pub fn lists_leave_out()
@@ -40,7 +40,7 @@ pub fn one_name_is_one_line()
     ensures kernel { KernelOfOneTask }
 {}
 
-/// Over a wiring none of whose wired ports is births, each line of a policy stands for itself.
-pub fn policies_stand_for_themselves()
-    ensures { PoliciesStandForThemselves }
+/// Over a wiring none of whose wired ports is births, each class of a policy stands for itself.
+pub fn classes_stand_for_themselves()
+    ensures { ClassesStandForThemselves }
 {}

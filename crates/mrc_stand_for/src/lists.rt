@@ -12,7 +12,7 @@ ghost use Rattle.mrc_stand_for.specs.Lists.{places_of, add_port, ports_of};
 
 use crate::faults::StandFault;
 use crate::known::{Known, is_among};
-use crate::several::{Alike, Several, add_each, add_once};
+use crate::several::{Copied, Several, add_each, add_once, copies};
 use crate::wide::{Kinds, Place, PlaceName, Tasks, Whom, WideClass};
 use mrc_base::OrMemory;
 use mrc_wiring_text::{ClassName, Kind, Name};
@@ -107,11 +107,7 @@ fn all_but(alloc: Global, known: &Known, left: &[Name]) -> Result<Several<Name>,
 fn all_tasks(alloc: Global, known: &Known) -> Result<Several<Name>, AllocError>
     ensures { IfOk result (λ list. list ≡ known.now.tasks) }
 {
-    let mut list = Several::empty(alloc);
-    for task in known.tasks.as_slice() {
-        list.push(task.copy(alloc)?)?;
-    }
-    Ok(list)
+    copies(alloc, known.tasks.as_slice())
 }
 
 /// TASKS.
@@ -175,7 +171,7 @@ fn whom_of(
 
 impl Found {
     /// No class yet.
-    fn nothing(alloc: Global) -> Found
+    pub(crate) fn nothing(alloc: Global) -> Found
         ensures { result ≡ nothing_found }
     {
         Found {
@@ -272,7 +268,7 @@ impl Found {
     }
 
     /// CLASS more.
-    fn add_class(
+    pub(crate) fn add_class(
         &mut self,
         alloc: Global,
         known: &Known,

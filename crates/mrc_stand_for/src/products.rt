@@ -8,7 +8,7 @@ ghost use Rattle.mrc_stand_for.specs.Products.{send_line, once_line, once_lines,
 ghost use Rattle.mrc_stand_for.specs.Products.{admit_lines, admit_none, verb_of, trust_line};
 ghost use Rattle.mrc_stand_for.specs.Products.{verb_lines, trust_lines, trust_none, none_lines};
 
-use crate::several::{Alike, Several, copy_items, copy_kind};
+use crate::several::{Copied, Several, copy_items, copy_kind};
 use crate::wide::{PlaceName, RightVerb, SlotName};
 use mrc_base::PortRight;
 use mrc_wiring_text::{

@@ -67,16 +67,30 @@ impl<T> Several<T> {
     }
 }
 
+/// What is copied.
+pub(crate) trait Copied: Drop {
+    /// An equal one.
+    fn copy(&self, alloc: Global) -> Result<Self, AllocError>
+        ensures { IfOk result (λ copy. copy ≡ self.now) };
+}
+
+/// Equal things in their order.
+pub(crate) fn copies<T: Copied>(alloc: Global, items: &[T]) -> Result<Several<T>, AllocError>
+    ensures { IfOk result (λ copies. copies ≡ items.now) }
+{
+    let mut copies = Several::empty(alloc);
+    for item in items {
+        copies.push(item.copy(alloc)?)?;
+    }
+    Ok(copies)
+}
+
 /// What is copied, and compared by a test of the definitions.
-pub(crate) trait Alike: Drop {
+pub(crate) trait Alike: Copied {
     ghost use Rattle.std.specs.Prelude.{Bool};
 
     /// Whether two are the same.
     ghost is_same: { Self → Self → Bool };
-
-    /// An equal one.
-    fn copy(&self, alloc: Global) -> Result<Self, AllocError>
-        ensures { IfOk result (λ copy. copy ≡ self.now) };
 
     /// Whether they are the same.
     fn is_alike(&self, other: &Self) -> bool
@@ -124,12 +138,14 @@ pub(crate) fn once<T: Alike>(alloc: Global, items: &[T]) -> Result<Several<T>, A
     Ok(list)
 }
 
-impl Alike for Name {
-    ghost is_same = { bytes_eq };
-
+impl Copied for Name {
     fn copy(&self, alloc: Global) -> Result<Name, AllocError> {
         Name::copy(self, alloc)
     }
+}
+
+impl Alike for Name {
+    ghost is_same = { bytes_eq };
 
     fn is_alike(&self, other: &Name) -> bool {
         self.as_str() == other.as_str()
@@ -164,9 +180,7 @@ pub(crate) fn copy_items(alloc: Global, items: &Items) -> Result<Items, AllocErr
     Ok(Items::new(copies))
 }
 
-impl Alike for ClassName {
-    ghost is_same = { same_class };
-
+impl Copied for ClassName {
     fn copy(&self, alloc: Global) -> Result<ClassName, AllocError> {
         match self {
             ClassName::Port(port) => Ok(ClassName::Port(port.copy(alloc)?)),
@@ -179,6 +193,10 @@ impl Alike for ClassName {
             }
         }
     }
+}
+
+impl Alike for ClassName {
+    ghost is_same = { same_class };
 
     fn is_alike(&self, other: &ClassName) -> bool {
         match (self, other) {
@@ -196,15 +214,17 @@ impl Alike for ClassName {
     }
 }
 
-impl Alike for PlaceName {
-    ghost is_same = { same_place };
-
+impl Copied for PlaceName {
     fn copy(&self, alloc: Global) -> Result<PlaceName, AllocError> {
         match self {
             PlaceName::Port(port) => Ok(PlaceName::Port(port.copy(alloc)?)),
             PlaceName::Task(task) => Ok(PlaceName::Task(task.copy(alloc)?)),
         }
     }
+}
+
+impl Alike for PlaceName {
+    ghost is_same = { same_place };
 
     fn is_alike(&self, other: &PlaceName) -> bool {
         match (self, other) {
@@ -215,9 +235,7 @@ impl Alike for PlaceName {
     }
 }
 
-impl Alike for SlotName {
-    ghost is_same = { same_slot };
-
+impl Copied for SlotName {
     fn copy(&self, alloc: Global) -> Result<SlotName, AllocError> {
         let subsystem = self.subsystem.copy(alloc)?;
         let type_name = self.type_name.copy(alloc)?;
@@ -226,18 +244,24 @@ impl Alike for SlotName {
             type_name,
         })
     }
+}
+
+impl Alike for SlotName {
+    ghost is_same = { same_slot };
 
     fn is_alike(&self, other: &SlotName) -> bool {
         self.subsystem.is_alike(&other.subsystem) && self.type_name.is_alike(&other.type_name)
     }
 }
 
-impl Alike for TrustVerb {
-    ghost is_same = { same_verb };
-
+impl Copied for TrustVerb {
     fn copy(&self, alloc: Global) -> Result<TrustVerb, AllocError> {
         Ok(*self)
     }
+}
+
+impl Alike for TrustVerb {
+    ghost is_same = { same_verb };
 
     fn is_alike(&self, other: &TrustVerb) -> bool {
         matches!(
@@ -250,12 +274,14 @@ impl Alike for TrustVerb {
     }
 }
 
-impl Alike for PortRight {
-    ghost is_same = { same_right };
-
+impl Copied for PortRight {
     fn copy(&self, alloc: Global) -> Result<PortRight, AllocError> {
         Ok(*self)
     }
+}
+
+impl Alike for PortRight {
+    ghost is_same = { same_right };
 
     fn is_alike(&self, other: &PortRight) -> bool {
         matches!(

@@ -17,8 +17,9 @@ ghost use Rattle.mrc_stand_for.specs.Standing.{once_stands, admit_stands, trust_
 ghost use Rattle.mrc_stand_for.specs.Standing.{none_stands, line_stands, is_late, is_group};
 ghost use Rattle.mrc_stand_for.specs.Standing.{known_after, add_part, add_line, nothing_stands};
 ghost use Rattle.mrc_stand_for.specs.Standing.{stand_for, IsStood, Stood, accepts_said};
-ghost use Rattle.mrc_stand_for.specs.Standing.{stood_so_far};
+ghost use Rattle.mrc_stand_for.specs.Standing.{stood_so_far, known_of};
 
+use crate::expected::expected_classes;
 use crate::faults::StandFault;
 use crate::known::{ClassSet, Group, Known, KnownBirths, Member, is_among};
 use crate::lists::{Found, classes_of, places_of, ports_of, tasks_of};
@@ -152,15 +153,27 @@ fn add_group(
 }
 
 /// One set more.
-fn push_set(alloc: Global, known: &mut Known, name: &Name, found: Found) -> Result<(), AllocError>
+fn push_set(
+    alloc: Global,
+    known: &mut Known,
+    name: &Name,
+    found: Found,
+    bare: Several<ClassName>,
+) -> Result<(), AllocError>
     ensures { OnOk result (known.new ≡ record known.old {
-      sets = known.old.sets ++ record { name = name.now; classes = found.classes } ∷ [];
+      sets = known.old.sets
+          ++ record { name = name.now; classes = found.classes; bare = bare } ∷ [];
     }) }
 {
     let name = name.copy(alloc)?;
     let Found { classes, closed } = found;
     drop(closed);
-    known.sets.push(ClassSet { name, classes })?;
+    let set = ClassSet {
+        name,
+        classes,
+        bare,
+    };
+    known.sets.push(set)?;
     Ok(())
 }
 
@@ -284,11 +297,12 @@ pub fn set_stands(
 {
     let nobody = None;
     let found = classes_of(alloc, known, line, &nobody, classes)?;
+    let bare = expected_classes(alloc, known, line, &nobody, classes)?;
     if known.has_set(set) {
         return Err(OrMemory::Fault(StandFault::TwiceNamed(line)));
     }
     name_classes(alloc, known, &found)?;
-    push_set(alloc, known, set, found)?;
+    push_set(alloc, known, set, found, bare)?;
     close(known, any_class_names_all(classes));
     Ok(Several::empty(alloc))
 }
@@ -663,6 +677,17 @@ fn learn(alloc: Global, known: &mut Known, says: &WiringSays) -> Result<(), Allo
         }
         _ => Ok(()),
     }
+}
+
+/// What is known after the lines of a wiring of an older version, which stand for themselves.
+pub fn known_of(alloc: Global, lines: &[WiringLine]) -> Result<Known, AllocError>
+    ensures { IfOk result (λ known. known ≡ known_of lines.now) }
+{
+    let mut known = Known::empty(alloc);
+    for line in lines {
+        learn(alloc, &mut known, &line.says)?;
+    }
+    Ok(known)
 }
 
 impl Standing {

@@ -8,7 +8,7 @@ ghost use Rattle.mrc_model.specs.First.{first};
 use crate::systems::SystemTexts;
 use mrc_base::OrMemory;
 use mrc_certificate::Draft;
-use mrc_check::{Confined, Refused, Stated, System, Why, check};
+use mrc_check::{Confined, PolicyText, Refused, Stated, System, Why, check};
 use mrc_closure::make_alone;
 use mrc_confine::Guarded;
 use mrc_report::{Script, read_script};
@@ -70,9 +70,20 @@ pub fn system_of(alloc: Global, texts: &SystemTexts) -> Result<System, Stop> {
 
 /// One call of `System::claim`. The system comes back if there is no claim.
 fn claimed(alloc: Global, system: System, policy: &str) -> Result<Claim, System> {
-    match system.claim(alloc, policy.as_bytes()) {
-        Ok(Stated { lines, claim }) => {
-            drop(lines);
+    let policy = PolicyText {
+        bytes: policy.as_bytes(),
+        waives: false,
+    };
+    match system.claim(alloc, &policy) {
+        Ok(
+            Stated {
+                lines,
+                claim,
+                stands,
+                demands,
+            },
+        ) => {
+            drop((lines, stands, demands));
             Ok(claim)
         }
         Err((system, why)) => {

@@ -3,10 +3,10 @@
 use Rattle.std.proofs.Common.{◌≡◌, ℕ, ◌+◌, ◌<◌, ◌≤◌, Bool, true, false, List, [], ◌∷◌, ◌++◌}
 use Rattle.std.proofs.Common.{inl, inr, length}
 use Rattle.std.proofs.Common.{map, take, get_or, refl, sym, ap, subst, ◌∙◌, arith}
-use Rattle.std.proofs.Common.{Option, Some, None, not}
+use Rattle.std.proofs.Common.{Option, Some, None, cond, not}
 use Rattle.std.proofs.Math.Path.{fun_ext}
 use Rattle.std.specs.Prelude.{filter, if◌then◌else◌, IfSome, ◌==◌, ◌&&◌, nat_lt}
-use Rattle.std.proofs.lemmas.Bool.{false≢true}
+use Rattle.std.proofs.lemmas.Bool.{cases_Bool, false≢true}
 use Rattle.std.specs.List.{All}
 use Rattle.std.proofs.lemmas.List.Elements.{filter_more, All-push}
 use Rattle.std.proofs.lemmas.List.{append-nil, map-append, take_all}
@@ -27,7 +27,13 @@ use Rattle.mrc_facts.specs.Sets.{has}
 use Rattle.mrc_closure.specs.declared.chains.Step.{Step}
 use Rattle.mrc_closure.specs.Chains.{IsChain}
 use Rattle.mrc_closure.proofs.Placing.{chains_are_least}
+use Rattle.mrc_check.specs.declared.demands.Demand.{Demand}
+use Rattle.mrc_check.specs.Demands.{is_forbidden, is_forbidden_by, holding_in, forbidden_in}
+use Rattle.mrc_wide_policy.specs.declared.asked.Stance.{Stance}
+use Rattle.mrc_wide_policy.specs.declared.asked.Stance.TheVariants.{Forbidden, Waived, Expected}
+use Rattle.mrc_check.specs.Texts.{Stated}
 use Rattle.mrc_check.specs.Trusted.{AreSecure, IsExposed, is_bound, may_rewrite}
+use Rattle.mrc_why.specs.Answered.{AreTold, IsMet, are_met, is_told, is_told_by, told}
 use Rattle.mrc_why.specs.Broken.{BrokenLine, forbidden_fact, is_broken, broken_lines, line_of}
 use Rattle.mrc_why.specs.Broken.{AreBroken, IsDerivedIn, HasYes, HasNoYes, IsJudged, ExposedTask}
 use Rattle.mrc_why.specs.Broken.{IsFirstExposed, IsExposedOf, IsReached, IsFound, is_yes}
@@ -46,6 +52,62 @@ pub told_of_each : (claim : Claimed) (facts : List Fact) (told : List BrokenLine
 told_of_each claim facts told least is set other =
     is ∙ ap (λ (s : Fact → Bool). broken_lines s claim.lines)
     (least_one (wiring_of claim.table) (has facts) set least other)
+
+-- and so are the demands of a policy that are told of one
+pub demands_of_each : (stated : Stated) (facts : List Fact) (demands : List Demand)
+    → IsLeast (wiring_of stated.claim.table) (has facts)
+    → demands ≡ told (has facts) stated.demands
+    → AreTold stated demands
+demands_of_each stated facts demands least is set other =
+    is ∙ ap (λ (s : Fact → Bool). told s stated.demands)
+    (least_one (wiring_of stated.claim.table) (has facts) set least other)
+
+-- and whether they are met
+pub met_of_each : (stated : Stated) (facts : List Fact) (demands : List Demand)
+    → IsLeast (wiring_of stated.claim.table) (has facts)
+    → demands ≡ told (has facts) stated.demands
+    → IsMet stated (are_met demands)
+met_of_each stated facts demands least is set other =
+    ap are_met (sym (demands_of_each stated facts demands least is set other))
+
+-- a holding that is forbidden and there is told
+told_if : (set : Fact → Bool) (waives : Bool) (stance : Stance) (there : Bool)
+    → is_forbidden_by waives stance ≡ true
+    → there ≡ true
+    → is_told_by stance there ≡ true
+told_if set waives Forbidden there forbids holds = holds
+told_if set waives (Waived n) there forbids holds = holds
+told_if set waives Expected there forbids holds = absurd (false≢true forbids)
+
+-- so if a line is broken, a demand is told
+pub broken_are_told : (set : Fact → Bool) (waives : Bool) (demands : List Demand)
+    → told set demands ≡ []
+    → broken_lines set (forbidden_in waives demands) ≡ []
+broken_are_told set waives [] none = refl
+broken_are_told set waives (d ∷ demands) none =
+    elim (cases_Bool (is_told set d)) [
+      | inl is ↦ absurd (cons_is_nil d (told set demands)
+          (sym (ap (λ b. cond b (d ∷ told set demands) (told set demands)) is) ∙ none))
+      | inr not_told ↦
+          let rest = broken_are_told set waives demands
+          (sym (ap (λ b. cond b (d ∷ told set demands) (told set demands)) not_told) ∙ none) in
+          elim (cases_Bool (is_forbidden waives d)) [
+            | inl forbids ↦
+                let lacks : is_broken set d.holding ≡ false = false_from_ne_true _ (λ there.
+                false≢true (sym not_told ∙ told_if set waives d.stance (is_broken set d.holding)
+                forbids there)) in
+                ap (λ b. broken_lines set (map holding_in (cond b (d ∷ filter (is_forbidden waives)
+                demands) (filter (is_forbidden waives) demands)))) forbids
+                ∙ ap (λ b. cond b (d.holding ∷ broken_lines set (forbidden_in waives demands))
+                (broken_lines set (forbidden_in waives demands))) lacks ∙ rest
+            | inr lets ↦
+                ap (λ b. broken_lines set (map holding_in (cond b (d ∷ filter (is_forbidden waives)
+                demands) (filter (is_forbidden waives) demands)))) lets ∙ rest
+          ]
+    ]
+  where
+    cons_is_nil : (x : Demand) (xs : List Demand) → x ∷ xs ≡ [] → ⊥
+    cons_is_nil x xs e = absurd cc
 
 pub exposed_of_each : (claim : Claimed) (facts : List Fact) (exposed : Option ExposedTask)
     → IsLeast (wiring_of claim.table) (has facts)

@@ -5,4 +5,5 @@ pub mod Sources
 pub mod Slots
 pub mod Texts
 pub mod Trees
+pub mod Answered
 pub mod Examples

@@ -2,6 +2,7 @@
 //! from in the files of a system.
 #![tactic(auto)]
 
+mod answered;
 mod checked;
 mod derivation;
 mod detours;
@@ -15,6 +16,7 @@ mod slots;
 mod sources;
 mod trees;
 
+pub use answered::{are_met, is_expected, is_met, is_waived, is_waived_line, line_in, told};
 pub use derivation::Derivations;
 pub use detours::chain_without;
 pub use judging::{Broken, Exposed, Verdict, forbidden_fact, verify};

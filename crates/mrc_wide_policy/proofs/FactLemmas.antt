@@ -2,11 +2,12 @@
 use Rattle.std.proofs.Common.{◌≡◌, ℕ, Bool, true, false, cond, ◌&&◌, ◌||◌, List, [], ◌∷◌, ◌++◌}
 use Rattle.std.proofs.Common.{map, length, Option, Some, None, Ok, refl, sym, ap, ◌∙◌}
 use Rattle.std.proofs.Common.{subst, inl, inr, ◌⊎◌}
-use Rattle.std.specs.Prelude.{bytes_eq, filter, fold, nat_eq}
+use Rattle.std.specs.Prelude.{not, bytes_eq, filter, fold, nat_eq}
 use Rattle.std.specs.List.{list_any}
 use Rattle.std.proofs.Math.Bool.{or-true}
 use Rattle.std.proofs.lemmas.Bool.{cases_Bool}
 use Rattle.std.proofs.lemmas.Grind.{flat_map-append}
+use Rattle.std.proofs.lemmas.List.Elements.{filter-append}
 use Rattle.std.proofs.lemmas.List.Folds.{list_any-append}
 use Rattle.mrc_base.specs.declared.PortRight.{PortRight}
 use Rattle.mrc_base.proofs.Steps.{bind_ok, passed, ok_is}
@@ -32,11 +33,11 @@ use Rattle.mrc_wide_policy.specs.FactLaws.{ProductsHaveTheirFacts, WaivedIsForbi
 use Rattle.mrc_wide_policy.specs.Facts.{fact, right_facts, row_facts, facts_in, same_fact}
 use Rattle.mrc_wide_policy.specs.Facts.{is_of_row}
 use Rattle.mrc_wide_policy.specs.Facts.{is_in, facts_of, is_of_waiver, is_waived, with_new}
-use Rattle.mrc_wide_policy.specs.Facts.{new_facts}
-use Rattle.mrc_wide_policy.specs.PolicyStanding.{expected_classes, rows_of, rights_in}
+use Rattle.mrc_wide_policy.specs.Facts.{new_facts, forbids, forbidding}
+use Rattle.mrc_wide_policy.specs.PolicyStanding.{rows_of, rights_in}
 use Rattle.mrc_wide_policy.specs.PolicyStanding.{product_facts}
 use Rattle.mrc_wide_policy.specs.PolicyStanding.{has_name, named_facts, waived_of, counted}
-use Rattle.mrc_wide_policy.specs.PolicyStanding.{add_group, add_set, add_forbid, add_expect}
+use Rattle.mrc_wide_policy.specs.PolicyStanding.{add_group, add_set, add_facts}
 use Rattle.mrc_wide_policy.specs.PolicyStanding.{add_waive, says_more, add_line, nothing_demanded}
 
 -- ---- the facts of a product
@@ -165,14 +166,32 @@ any_line t p (line ∷ lines) h =
           (any_line t p lines (sym (ap choose fails) ∙ h)) ∙ or-true (list_any t line.facts)
     ]
 
--- a fact of the lines so far is one of those and more
+-- a fact of the lines so far that forbid is one of those of these and more
 any_longer : (t : NamedFact → Bool) (lines more : List FactLine)
-    → list_any t (facts_of lines) ≡ true
-    → list_any t (facts_of (lines ++ more)) ≡ true
+    → list_any t (facts_of (forbidding lines)) ≡ true
+    → list_any t (facts_of (forbidding (lines ++ more))) ≡ true
 any_longer t lines more h =
-    ap (list_any t) (flat_map-append (λ (line : FactLine). line.facts) lines more)
-    ∙ list_any-append t (facts_of lines) (facts_of more)
-    ∙ ap (λ b. b || list_any t (facts_of more)) h
+    ap (λ ls. list_any t (facts_of ls)) (filter-append forbids lines more)
+    ∙ ap (list_any t) (flat_map-append (λ (line : FactLine). line.facts) (forbidding lines)
+    (forbidding more))
+    ∙ list_any-append t (facts_of (forbidding lines)) (facts_of (forbidding more))
+    ∙ ap (λ b. b || list_any t (facts_of (forbidding more))) h
+
+-- a line of a name that forbids is one of the lines that forbid
+kept_named : (name : List ℕ) (line : FactLine) (lines : List FactLine) (e : Bool)
+    → line.expects ≡ e
+    → filter (has_name name) (forbidding lines) ≡ filter (has_name name) lines
+    → filter (has_name name) (cond (not e) (line ∷ forbidding lines) (forbidding lines))
+    ≡ filter (has_name name) (line ∷ lines)
+kept_named name line lines true is h = h ∙ rw is refl
+kept_named name line lines false is h =
+    ap (λ ls. cond (has_name name line) (line ∷ ls) ls) h
+
+named_forbids : (name : List ℕ) (lines : List FactLine)
+    → filter (has_name name) (forbidding lines) ≡ filter (has_name name) lines
+named_forbids name [] = refl
+named_forbids name (line ∷ lines) =
+    kept_named name line lines line.expects refl (named_forbids name lines)
 
 -- ---- new facts are among those that were given
 
@@ -198,17 +217,25 @@ abbrev Kept : Demands → Type 0
 Kept so_far =
     (f : NamedFact)
     → is_waived so_far.waived f ≡ true
-    → list_any (same_fact f) (facts_of so_far.forbidden) ≡ true
+    → list_any (same_fact f) (facts_of (forbidding so_far.lines)) ≡ true
+
+-- the lines of a name are among those that forbid
+any_named : (t : NamedFact → Bool) (name : List ℕ) (lines : List FactLine)
+    → list_any t (facts_of (filter (has_name name) lines)) ≡ true
+    → list_any t (facts_of (forbidding lines)) ≡ true
+any_named t name lines h =
+    any_line t (has_name name) (forbidding lines)
+    (ap (λ ls. list_any t (facts_of ls)) (named_forbids name lines) ∙ h)
 
 named_any : (t : NamedFact → Bool) (n : ℕ) (name : List ℕ) (lines : List FactLine)
     (named : List NamedFact)
     → named_facts n name lines ≡ Ok named
     → list_any t named ≡ true
-    → list_any t (facts_of lines) ≡ true
+    → list_any t (facts_of (forbidding lines)) ≡ true
 named_any t n name lines named e h =
     let found = passed (list_any (has_name name) lines) (UnknownName n)
     (Ok (facts_of (filter (has_name name) lines))) named e in
-    any_line t (has_name name) lines
+    any_named t name lines
     (ap (list_any t) (ok_is (facts_of (filter (has_name name) lines)) named found.1) ∙ h)
 
 those_any : (t : NamedFact → Bool) (so_far : Demands) (n : ℕ) (product : Option Product)
@@ -218,7 +245,7 @@ those_any : (t : NamedFact → Bool) (so_far : Demands) (n : ℕ) (product : Opt
     → list_any t facts ≡ true
 those_any t so_far n None facts those e h = ap (list_any t) (ok_is facts those e) ∙ h
 those_any t so_far n (Some product) facts those e h =
-    let step = bind_ok (rows_of false so_far.known so_far.sets n product)
+    let step = bind_ok (rows_of false so_far.known n product)
     (λ rows. Ok (filter (is_in (rights_in product) rows) facts)) those e in
     any_filter t (is_in (rights_in product) step.0) facts
     (ap (list_any t) (ok_is (filter (is_in (rights_in product) step.0) facts) those step.2) ∙ h)
@@ -229,7 +256,7 @@ waive_kept : (so_far after : Demands) (n : ℕ) (name : List ℕ) (product : Opt
     → add_waive so_far n name product because ≡ Ok after
     → Kept after
 waive_kept so_far after n name product because kept e =
-    let named = bind_ok (named_facts n name so_far.forbidden) _ after e in
+    let named = bind_ok (named_facts n name so_far.lines) _ after e in
     let those = bind_ok (waived_of so_far n product named.0) _ after named.2 in
     let some = bind_ok (filled n those.0) _ after those.2 in
     let count = bind_ok (counted n so_far.count (new_facts so_far.waived some.0)) _ after some.2 in
@@ -243,30 +270,22 @@ waive_kept so_far after n name product because kept e =
     subst Kept (ok_is _ after count.2) (λ f h. elim (or_either (is_waived so_far.waived f)
     (is_of_waiver f line) (sym (list_any-append (is_of_waiver f) so_far.waived (line ∷ [])) ∙ h)) [
       | inl old ↦ kept f old
-      | inr new ↦ named_any (same_fact f) n name so_far.forbidden named.0 named.1
+      | inr new ↦ named_any (same_fact f) n name so_far.lines named.0 named.1
           (those_any (same_fact f) so_far n product named.0 those.0 those.1
           (ap (list_any (same_fact f)) same
           ∙ new_some (same_fact f) so_far.waived [] some.0 new))
     ])
 
-forbid_kept : (so_far after : Demands) (n : ℕ) (name : Option (List ℕ)) (product : Product)
+facts_kept : (expects : Bool) (so_far after : Demands) (n : ℕ) (name : Option (List ℕ))
+    (product : Product)
     → Kept so_far
-    → add_forbid so_far n name product ≡ Ok after
+    → add_facts expects so_far n name product ≡ Ok after
     → Kept after
-forbid_kept so_far after n name product kept e =
-    let facts = bind_ok (product_facts false so_far.known so_far.sets n product) _ after e in
+facts_kept expects so_far after n name product kept e =
+    let facts = bind_ok (product_facts expects so_far.known n product) _ after e in
     let count = bind_ok (counted n so_far.count facts.0) _ after facts.2 in
     subst Kept (ok_is _ after count.2)
-    (λ f h. any_longer (same_fact f) so_far.forbidden _ (kept f h))
-
-expect_kept : (so_far after : Demands) (n : ℕ) (name : Option (List ℕ)) (product : Product)
-    → Kept so_far
-    → add_expect so_far n name product ≡ Ok after
-    → Kept after
-expect_kept so_far after n name product kept e =
-    let facts = bind_ok (product_facts true so_far.known so_far.sets n product) _ after e in
-    let count = bind_ok (counted n so_far.count facts.0) _ after facts.2 in
-    subst Kept (ok_is _ after count.2) kept
+    (λ f h. any_longer (same_fact f) so_far.lines _ (kept f h))
 
 group_kept : (so_far after : Demands) (n : ℕ) (group : List ℕ) (tasks : Tasks)
     → Kept so_far
@@ -281,8 +300,7 @@ set_kept : (so_far after : Demands) (n : ℕ) (set : List ℕ) (classes : List W
     → add_set so_far n set classes ≡ Ok after
     → Kept after
 set_kept so_far after n set classes kept e =
-    let bare = bind_ok (expected_classes so_far.known so_far.sets n None classes) _ after e in
-    let stood = bind_ok (set_stands so_far.known n set classes) _ after bare.2 in
+    let stood = bind_ok (set_stands so_far.known n set classes) _ after e in
     subst Kept (ok_is _ after stood.2) kept
 
 says_kept : (so_far after : Demands) (n : ℕ) (line : PolicySays)
@@ -294,9 +312,9 @@ says_kept so_far after n (says.Group group tasks) kept e =
 says_kept so_far after n (says.Set set classes) kept e =
     set_kept so_far after n set classes kept e
 says_kept so_far after n (says.Forbid name product) kept e =
-    forbid_kept so_far after n name product kept e
+    facts_kept false so_far after n name product kept e
 says_kept so_far after n (says.Expect name product) kept e =
-    expect_kept so_far after n name product kept e
+    facts_kept true so_far after n name product kept e
 says_kept so_far after n (says.Waive name product because) kept e =
     waive_kept so_far after n name product because kept e
 
@@ -316,4 +334,4 @@ waived_is_forbidden = λ known lines stands f e h.
     let kept = lines_kept (nothing_demanded known) all.0 lines (λ f none. absurd cc) all.1 in
     let same = ok_is _ stands all.2 in
     subst (λ (s : PolicyStands). is_waived s.waived f ≡ true
-    → list_any (same_fact f) (facts_of s.forbidden) ≡ true) same (kept f) h
+    → list_any (same_fact f) (facts_of (forbidding s.lines)) ≡ true) same (kept f) h

@@ -4,3 +4,4 @@ mod TextLemmas
 mod OtherLemmas
 mod FactLemmas
 mod OneLemmas
+pub mod StandLemmas

@@ -8,21 +8,21 @@ use Rattle.std.proofs.lemmas.List.Elements.{filter-append}
 use Rattle.mrc_wiring_text.specs.declared.policy.ClassName.{ClassName}
 use Rattle.mrc_wiring_text.specs.declared.policy.ClassName.TheVariants as class
 use Rattle.mrc_stand_for.specs.declared.faults.StandFault.{StandFault}
+use Rattle.mrc_stand_for.specs.Expected.{is_births}
 use Rattle.mrc_stand_for.specs.Known.{is_member, member_class}
 use Rattle.mrc_stand_for.specs.Once.{with_once, with_each, same_class}
 use Rattle.mrc_wide_policy.specs.declared.facts.NamedFact.{NamedFact}
 use Rattle.mrc_wide_policy.specs.Facts.{facts_in}
 use Rattle.mrc_wide_policy.specs.LineLaws.{OnePortIsOneFact, OneKernelIsOneFact}
 use Rattle.mrc_wide_policy.specs.LineLaws.{BirthsAreExpectedAlone}
-use Rattle.mrc_wide_policy.specs.PolicyStanding.{is_births}
 
 pub one_port : OnePortIsOneFact
-one_port true known sets n task port right there also = rw (there, also) refl
-one_port false known sets n task port right there also = rw (there, also) refl
+one_port true known n task port right there also = rw (there, also) refl
+one_port false known n task port right there also = rw (there, also) refl
 
 pub one_kernel : OneKernelIsOneFact
-one_kernel true known sets n task other right there also = rw (there, also) refl
-one_kernel false known sets n task other right there also = rw (there, also) refl
+one_kernel true known n task other right there also = rw (there, also) refl
+one_kernel false known n task other right there also = rw (there, also) refl
 
 -- what is no births leaves the births as they were
 one_left : (b : Bool) (xs : List ClassName) (x : ClassName)
@@ -45,7 +45,7 @@ all_left f none found (x ∷ xs) =
     ∙ one_left (list_any (same_class (f x)) found) found (f x) (none x)
 
 pub births_alone : BirthsAreExpectedAlone
-births_alone = λ known sets n task other right kind there also has.
+births_alone = λ known n task other right kind there also has.
     let made : List ClassName → Result (List NamedFact) StandFault = λ found. Ok
     (facts_in (right ∷ []) (record { task = task; classes = with_each same_class [] found } ∷ []))
     in

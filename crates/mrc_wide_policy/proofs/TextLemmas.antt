@@ -164,7 +164,7 @@ decoded bytes text e =
     (IsUtf8-from_is_utf8 bytes test.0, ok_is bytes text test.1)
 
 -- what was read is a policy that says so
-text_found : (bytes : List ℕ) (says : List (Line PolicySays))
+pub text_found : (bytes : List ℕ) (says : List (Line PolicySays))
     → wide_policy_of bytes ≡ Ok says
     → IsWidePolicy bytes says
 unfolding wide_policy_of
@@ -190,7 +190,7 @@ text_found bytes says e =
     }
 
 -- what a policy says is read
-text_read : (bytes : List ℕ) (says : List (Line PolicySays))
+pub text_read : (bytes : List ℕ) (says : List (Line PolicySays))
     → IsWidePolicy bytes says
     → wide_policy_of bytes ≡ Ok says
 unfolding wide_policy_of utf8_text
@@ -235,7 +235,7 @@ head_older : (n : ℕ) (ws : List (List ℕ)) (v : ℕ)
 unfolding heading_of
 head_older n ws v within named other = rw (le-ltb limit_of_lines n within, named, other) refl
 
-text_older : (bytes : List ℕ) (says : List (Line Forbid))
+pub text_older : (bytes : List ℕ) (says : List (Line Forbid))
     → IsPolicy bytes says
     → wide_policy_of bytes ≡ Err Version
 unfolding wide_policy_of utf8_text

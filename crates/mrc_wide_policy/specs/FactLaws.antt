@@ -8,7 +8,8 @@ use Rattle.mrc_wide_policy.specs.declared.facts.NamedFact.{NamedFact}
 use Rattle.mrc_wide_policy.specs.declared.facts.PolicyStands.{PolicyStands}
 use Rattle.mrc_wide_policy.specs.declared.facts.Row.{Row}
 use Rattle.mrc_wide_policy.specs.declared.says.PolicySays.{PolicySays}
-use Rattle.mrc_wide_policy.specs.Facts.{facts_in, facts_of, same_fact, is_in, is_waived}
+use Rattle.mrc_wide_policy.specs.Facts.{facts_in, facts_of, forbidding, same_fact, is_in}
+use Rattle.mrc_wide_policy.specs.Facts.{is_waived}
 use Rattle.mrc_wide_policy.specs.PolicyStanding.{policy_stands}
 
 -- a fact is in a product, by its task, its right and its class, exactly if it is one of its facts
@@ -23,4 +24,4 @@ WaivedIsForbidden =
     (known : Known) (lines : List (Line PolicySays)) (stands : PolicyStands) (fact : NamedFact)
     → policy_stands known lines ≡ Ok stands
     → is_waived stands.waived fact ≡ true
-    → list_any (same_fact fact) (facts_of stands.forbidden) ≡ true
+    → list_any (same_fact fact) (facts_of (forbidding stands.lines)) ≡ true

@@ -1,7 +1,7 @@
 -- Believe. The facts that a line of a policy names: each right of each task on each class. This
 -- profile's own choice.
-use Rattle.std.specs.Prelude.{ℕ, Bool, ◌&&◌, ◌||◌, bytes_eq, List, [], ◌∷◌, ◌++◌, map, fold}
-use Rattle.std.specs.Prelude.{if◌then◌else◌}
+use Rattle.std.specs.Prelude.{ℕ, Bool, ◌&&◌, ◌||◌, not, bytes_eq, List, [], ◌∷◌, ◌++◌, map}
+use Rattle.std.specs.Prelude.{filter, fold, if◌then◌else◌}
 use Rattle.std.specs.List.{list_any, flat_map}
 use Rattle.mrc_base.specs.declared.PortRight.{PortRight}
 use Rattle.mrc_wiring_text.specs.declared.policy.ClassName.{ClassName}
@@ -43,6 +43,14 @@ is_in rights rows fact =
 -- the facts of lines
 abbrev pub facts_of : List FactLine → List NamedFact
 facts_of lines = flat_map (λ line. line.facts) lines
+
+-- the line forbids; else it expects
+abbrev pub forbids : FactLine → Bool
+forbids line = not line.expects
+
+-- those of lines that forbid
+abbrev pub forbidding : List FactLine → List FactLine
+forbidding lines = filter forbids lines
 
 -- the fact is one of the line's
 abbrev pub is_of_waiver : NamedFact → WaivedLine → Bool

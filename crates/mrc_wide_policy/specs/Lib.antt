@@ -5,7 +5,10 @@ pub mod PolicyReading
 pub mod PolicyTexts
 pub mod Facts
 pub mod PolicyStanding
+pub mod Asked
+pub mod Policies
 pub mod FactLaws
 pub mod LineLaws
+pub mod AskedLaws
 pub mod Worked
 pub mod WorkedPolicies

@@ -10,7 +10,6 @@ use Rattle.mrc_stand_for.specs.declared.wide.WideClass.TheVariants as wide
 use Rattle.mrc_stand_for.specs.declared.wide.Whom.TheVariants as whom
 use Rattle.mrc_stand_for.specs.Known.{has_kind}
 use Rattle.mrc_stand_for.specs.Once.{is_among}
-use Rattle.mrc_wide_policy.specs.declared.rows.BareSet.{BareSet}
 use Rattle.mrc_wide_policy.specs.declared.says.Product.{Product}
 use Rattle.mrc_wide_policy.specs.Facts.{fact}
 use Rattle.mrc_wide_policy.specs.PolicyStanding.{product_facts}
@@ -26,32 +25,32 @@ of_one task right class = record {
 -- `T RIGHT port P`
 abbrev pub OnePortIsOneFact : Type 0
 OnePortIsOneFact =
-    (expects : Bool) (known : Known) (sets : List BareSet) (n : ℕ) (task port : List ℕ)
+    (expects : Bool) (known : Known) (n : ℕ) (task port : List ℕ)
     (right : PortRight)
     → is_among task known.tasks ≡ true
     → is_among port known.ports ≡ true
-    → product_facts expects known sets n (of_one task right (wide.Port port))
+    → product_facts expects known n (of_one task right (wide.Port port))
     ≡ Ok (fact task right (class.Port port) ∷ [])
 
 -- `T RIGHT task U`
 abbrev pub OneKernelIsOneFact : Type 0
 OneKernelIsOneFact =
-    (expects : Bool) (known : Known) (sets : List BareSet) (n : ℕ) (task other : List ℕ)
+    (expects : Bool) (known : Known) (n : ℕ) (task other : List ℕ)
     (right : PortRight)
     → is_among task known.tasks ≡ true
     → is_among other known.tasks ≡ true
-    → product_facts expects known sets n (of_one task right (wide.Task (whom.Who other)))
+    → product_facts expects known n (of_one task right (wide.Task (whom.Who other)))
     ≡ Ok (fact task right (class.Task other) ∷ [])
 
 -- `T RIGHT births U K` in a line that expects, whichever ports are such births
 abbrev pub BirthsAreExpectedAlone : Type 0
 BirthsAreExpectedAlone =
-    (known : Known) (sets : List BareSet) (n : ℕ) (task other : List ℕ) (right : PortRight)
+    (known : Known) (n : ℕ) (task other : List ℕ) (right : PortRight)
     (kind : ℕ)
     → is_among task known.tasks ≡ true
     → is_among other known.tasks ≡ true
     → has_kind known other kind ≡ true
-    → product_facts true known sets n
+    → product_facts true known n
     (of_one task right (wide.Births (whom.Who other) (kinds.One kind)))
     ≡ Ok (fact task right (class.Births other kind) ∷ [])
 

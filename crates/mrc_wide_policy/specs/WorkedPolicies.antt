@@ -1,7 +1,7 @@
 -- Worked. Policies over a small wiring: what their lines stand for, and the smallest policy of each
 -- refusal. Each text begins with its heading.
-use Rattle.std.specs.Prelude.{◌≡◌, ℕ, false, List, [], ◌∷◌, ◌++◌, Option, Some, None, Result}
-use Rattle.std.specs.Prelude.{Ok, Err, codes, refl}
+use Rattle.std.specs.Prelude.{◌≡◌, ℕ, true, false, List, [], ◌∷◌, ◌++◌, Option, Some, None}
+use Rattle.std.specs.Prelude.{Result, Ok, Err, codes, refl}
 use Rattle.mrc_base.specs.declared.PortRight.TheVariants.{Send, Receive, SendOnce}
 use Rattle.mrc_base.specs.Reading.{◌>>=◌}
 use Rattle.mrc_wiring_text.specs.declared.faults.TextFault.{TextFault}
@@ -87,22 +87,21 @@ stand known (Err fault) = None
 abbrev stood : Known → List ℕ → Option (Result PolicyStands StandFault)
 stood known text = stand known (read text)
 
--- the lines that forbid, expect and waive
-abbrev all_of : List FactLine → List FactLine → List WaivedLine
-    → Option (Result PolicyStands StandFault)
-all_of forbidden expected waived = Some (Ok (record {
-  forbidden = forbidden;
-  expected = expected;
-  waived = waived;
-}))
+-- the lines that forbid or expect, and those that waive
+abbrev all_of : List FactLine → List WaivedLine → Option (Result PolicyStands StandFault)
+all_of lines waived = Some (Ok (record { is_wide = true; lines = lines; waived = waived }))
 
 -- the first fault
 abbrev refused : StandFault → Option (Result PolicyStands StandFault)
 refused fault = Some (Err fault)
 
--- a line of facts
+-- a line that forbids
 abbrev line : ℕ → Option (List ℕ) → List NamedFact → FactLine
-line n name facts = record { number = n; name = name; facts = facts }
+line n name facts = record { number = n; name = name; expects = false; facts = facts }
+
+-- a line that expects
+abbrev expecting : ℕ → List NamedFact → FactLine
+expecting n facts = record { number = n; name = None; expects = true; facts = facts }
 
 -- a line that waives what lines of the name x forbid
 abbrev waiver : ℕ → List ℕ → List NamedFact → WaivedLine
@@ -143,7 +142,7 @@ pub forbidden : stood small (codes "policy 3\ngroup h a, b\n"
     ∷ fact a Receive (Task c) ∷ fact a Receive (Births c 0) ∷ fact a Receive (Births c 1)
     ∷ fact b Send (Task a) ∷ fact b Send (Task c) ∷ fact b Send (Births c 0)
     ∷ fact b Send (Births c 1) ∷ fact b Receive (Task a) ∷ fact b Receive (Task c)
-    ∷ fact b Receive (Births c 0) ∷ fact b Receive (Births c 1) ∷ []) ∷ []) [] []
+    ∷ fact b Receive (Births c 0) ∷ fact b Receive (Births c 1) ∷ []) ∷ []) []
 unfolding quoted_words by_turns words between_blanks is_blank add_lines heading_of version_of
     line_says policy_says group_says name_in_front quoted_of is_in_quotes is_string free_name
     is_reserved is_name tasks_of tasks_in_front tasks_behind tasks_len list_len in_front behind
@@ -153,10 +152,9 @@ forbidden = refl
 pub births_alone : stood with_members (codes "policy 3\nset s births a 1, port q, port p\n"
     ++ codes "expect b send s\nforbid b send s")
     ≡ all_of
-    (line 4 None (fact b Send (Births a 1) ∷ fact b Send (Port q) ∷ fact b Send (Port (codes "r"))
-    ∷ fact b Send (Port p) ∷ []) ∷ [])
-    (line 3 None (fact b Send (Births a 1) ∷ fact b Send (Port q) ∷ fact b Send (Port p) ∷ [])
-    ∷ []) []
+    (expecting 3 (fact b Send (Births a 1) ∷ fact b Send (Port q) ∷ fact b Send (Port p) ∷ [])
+    ∷ line 4 None (fact b Send (Births a 1) ∷ fact b Send (Port q) ∷ fact b Send (Port (codes "r"))
+    ∷ fact b Send (Port p) ∷ []) ∷ []) []
 unfolding quoted_words by_turns words between_blanks is_blank add_lines heading_of version_of
     line_says policy_says set_says name_in_front quoted_of is_in_quotes is_string free_name
     is_reserved is_name tasks_of tasks_in_front tasks_behind tasks_len list_len in_front behind
@@ -169,7 +167,7 @@ pub waived : stood small (codes "policy 3\nforbid \"x\" u send port p\n"
     ++ codes "waive \"x\" b send port p, task a \"ticket #7, known\"\n"
     ++ codes "waive \"x\" \"known\"\nforbid \"x\" a once port p")
     ≡ all_of (line 2 (Some (codes "x")) (fact b Send (Port p) ∷ fact c Send (Port p) ∷ [])
-    ∷ line 5 (Some (codes "x")) (fact a SendOnce (Port p) ∷ []) ∷ []) []
+    ∷ line 5 (Some (codes "x")) (fact a SendOnce (Port p) ∷ []) ∷ [])
     (waiver 3 (codes "ticket #7, known") (fact b Send (Port p) ∷ [])
     ∷ waiver 4 (codes "known") (fact c Send (Port p) ∷ []) ∷ [])
 unfolding quoted_words by_turns words between_blanks is_blank add_lines heading_of version_of

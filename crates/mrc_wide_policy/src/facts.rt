@@ -40,6 +40,8 @@ pub struct FactLine {
     pub number: u32,
     /// Its NAME.
     pub name: Option<Quoted>,
+    /// Whether it expects; else it forbids.
+    pub expects: bool,
     /// The facts, in the order of its product.
     pub facts: Several<NamedFact>,
 }
@@ -60,10 +62,10 @@ pub struct WaivedLine {
 /// What the lines of a policy stand for.
 #[derive(Drop)]
 pub struct PolicyStands {
-    /// The lines that forbid.
-    pub forbidden: Several<FactLine>,
-    /// The lines that expect.
-    pub expected: Several<FactLine>,
+    /// Whether the policy is of version 3.
+    pub is_wide: bool,
+    /// The lines that forbid or expect.
+    pub lines: Several<FactLine>,
     /// The lines that waive.
     pub waived: Several<WaivedLine>,
 }
@@ -76,7 +78,7 @@ pub(crate) fn is_same_name(name: &Name, other: &Name) -> bool
 }
 
 /// Whether two classes are one.
-pub(crate) fn is_same_class(class: &ClassName, other: &ClassName) -> bool
+fn is_same_class(class: &ClassName, other: &ClassName) -> bool
     ensures { result ≡ same_class class.now other.now }
 {
     match (class, other) {
@@ -94,7 +96,7 @@ pub(crate) fn is_same_class(class: &ClassName, other: &ClassName) -> bool
 }
 
 /// Whether a class is among these.
-pub(crate) fn has_class(classes: &[ClassName], class: &ClassName) -> bool
+fn has_class(classes: &[ClassName], class: &ClassName) -> bool
     ensures { result ≡ list_any (same_class class.now) classes.now }
 {
     classes.iter().any(|other| is_same_class(class, other))
@@ -287,7 +289,8 @@ pub(crate) fn push_facts(
     Ok(())
 }
 
-fn is_of_waiver(fact: &NamedFact, line: &WaivedLine) -> bool
+/// Whether a fact is one of a line's.
+pub(crate) fn is_of_waiver(fact: &NamedFact, line: &WaivedLine) -> bool
     ensures { result ≡ is_of_waiver fact.now line.now }
 {
     has_fact(line.facts.as_slice(), fact)

@@ -1,4 +1,5 @@
 //! Laws of what lines say, proved of the definitions alone.
+ghost use Rattle.mrc_wide_policy.specs.AskedLaws.{OlderPoliciesAskForTheirLines};
 ghost use Rattle.mrc_wide_policy.specs.FactLaws.{ProductsHaveTheirFacts, WaivedIsForbidden};
 ghost use Rattle.mrc_wide_policy.specs.LineLaws.{LinesOfOneNameNameOneFact};
 ghost use Rattle.mrc_wide_policy.specs.QuoteLaws.{PlainLinesHaveTheirWords};
@@ -21,4 +22,10 @@ pub fn waived_is_forbidden()
 /// A line of one name in each list names one fact; births that are expected are births alone.
 pub fn lines_of_one_name_name_one_fact()
     ensures { LinesOfOneNameNameOneFact }
+{}
+
+/// Over a wiring none of whose wired ports is births a policy of an older version asks for what its
+/// lines forbid.
+pub fn older_policies_ask_for_their_lines()
+    ensures { OlderPoliciesAskForTheirLines }
 {}

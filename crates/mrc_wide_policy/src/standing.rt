@@ -1,13 +1,13 @@
 //! What the lines of a policy stand for, one line after the other.
 
-ghost use Rattle.std.specs.Prelude.{◌≡◌, ◌+◌, ◌++◌, ◌∷◌, filter, length, IfOk};
+ghost use Rattle.std.specs.Prelude.{◌≡◌, ◌+◌, ◌++◌, ◌∷◌, filter, length, true, IfOk};
 ghost use Rattle.std.specs.List.{list_any};
 ghost use Rattle.mrc_base.specs.Reading.{Gives};
 ghost use Rattle.mrc_stand_for.specs.Steps.{Leaves};
 ghost use Rattle.mrc_wide_policy.specs.Facts.{facts_of};
 ghost use Rattle.mrc_wide_policy.specs.PolicyStanding.{product_facts, has_name, named_facts};
 ghost use Rattle.mrc_wide_policy.specs.PolicyStanding.{waived_of, counted, add_group, add_set};
-ghost use Rattle.mrc_wide_policy.specs.PolicyStanding.{add_forbid, add_expect, add_waive};
+ghost use Rattle.mrc_wide_policy.specs.PolicyStanding.{add_facts, add_waive};
 ghost use Rattle.mrc_wide_policy.specs.PolicyStanding.{says_more, add_line, nothing_demanded};
 ghost use Rattle.mrc_wide_policy.specs.PolicyStanding.{policy_stands};
 
@@ -16,7 +16,7 @@ use crate::facts::{
     those_in,
 };
 use crate::quotes::Quoted;
-use crate::rows::{BareSet, expected_classes, rows_of};
+use crate::rows::rows_of;
 use crate::says::{PolicySays, Product, WidePolicyLine};
 use mrc_base::OrMemory;
 use mrc_stand_for::{Known, Several, StandFault, Tasks, WideClass, group_stands, set_stands};
@@ -31,14 +31,10 @@ pub const FACTS: usize = 1_048_576;
 pub(crate) struct Demands {
     /// What lists can name.
     known: Known,
-    /// The sets of the policy, as lines that expect have them.
-    sets: Several<BareSet>,
     /// The facts of all lines.
     count: usize,
-    /// The lines that forbid.
-    forbidden: Several<FactLine>,
-    /// The lines that expect.
-    expected: Several<FactLine>,
+    /// The lines that forbid or expect.
+    lines: Several<FactLine>,
     /// The lines that waive.
     waived: Several<WaivedLine>,
 }
@@ -48,14 +44,13 @@ fn product_facts(
     alloc: Global,
     expects: bool,
     known: &Known,
-    sets: &[BareSet],
     line: u32,
     product: &Product,
 ) -> Result<Several<NamedFact>, OrMemory<StandFault>>
     ensures { Gives (λ facts. facts) result
-        (product_facts expects known.now sets.now line product.now) }
+        (product_facts expects known.now line product.now) }
 {
-    let rows = rows_of(alloc, expects, known, sets, line, product)?;
+    let rows = rows_of(alloc, expects, known, line, product)?;
     let rights = rights_once(alloc, product.rights.as_slice())?;
     Ok(facts_in(alloc, rights.as_slice(), rows.as_slice())?)
 }
@@ -80,11 +75,12 @@ fn copy_name(alloc: Global, name: &Option<Quoted>) -> Result<Option<Quoted>, All
     }
 }
 
+/// Whether a line forbids, and has the name.
 fn has_name(name: &Quoted, line: &FactLine) -> bool
     ensures { result ≡ has_name name.now line.now }
 {
     match &line.name {
-        Some(other) => name.as_bytes() == other.as_bytes(),
+        Some(other) => !line.expects && name.as_bytes() == other.as_bytes(),
         None => false,
     }
 }
@@ -106,7 +102,7 @@ fn facts_named(
     Ok(facts)
 }
 
-/// Whether a line has the name.
+/// Whether a line that forbids has the name.
 fn has_line(name: &Quoted, lines: &[FactLine]) -> bool
     ensures { result ≡ list_any (has_name name.now) lines.now }
 {
@@ -135,10 +131,8 @@ impl Demands {
     {
         Demands {
             known,
-            sets: Several::empty(alloc),
             count: 0,
-            forbidden: Several::empty(alloc),
-            expected: Several::empty(alloc),
+            lines: Several::empty(alloc),
             waived: Several::empty(alloc),
         }
     }
@@ -168,60 +162,31 @@ impl Demands {
     ) -> Result<(), OrMemory<StandFault>>
         ensures { Leaves result self.new (add_set self.old line set.now classes.now) }
     {
-        let nobody = None;
-        let sets = self.sets.as_slice();
-        let bare = expected_classes(alloc, &self.known, sets, line, &nobody, classes)?;
         let none = set_stands(alloc, &mut self.known, line, set, classes)?;
         drop(none);
-        let name = set.copy(alloc)?;
-        self.sets.push(BareSet {
-            name,
-            classes: bare,
-        })?;
         Ok(())
     }
 
-    /// `forbid TASKS RIGHTS CLASSES`.
-    fn add_forbid(
+    /// `forbid TASKS RIGHTS CLASSES`, or the same that expects.
+    fn add_facts(
         &mut self,
         alloc: Global,
+        expects: bool,
         line: u32,
         name: &Option<Quoted>,
         product: &Product,
     ) -> Result<(), OrMemory<StandFault>>
-        ensures { Leaves result self.new (add_forbid self.old line name.now product.now) }
+        ensures { Leaves result self.new
+            (add_facts expects self.old line name.now product.now) }
     {
-        let sets = self.sets.as_slice();
-        let facts = product_facts(alloc, false, &self.known, sets, line, product)?;
+        let facts = product_facts(alloc, expects, &self.known, line, product)?;
         let count = counted(line, self.count, facts.as_slice())?;
         let name = copy_name(alloc, name)?;
         self.count = count;
-        self.forbidden.push(FactLine {
+        self.lines.push(FactLine {
             number: line,
             name,
-            facts,
-        })?;
-        Ok(())
-    }
-
-    /// `expect TASKS RIGHTS CLASSES`.
-    fn add_expect(
-        &mut self,
-        alloc: Global,
-        line: u32,
-        name: &Option<Quoted>,
-        product: &Product,
-    ) -> Result<(), OrMemory<StandFault>>
-        ensures { Leaves result self.new (add_expect self.old line name.now product.now) }
-    {
-        let sets = self.sets.as_slice();
-        let facts = product_facts(alloc, true, &self.known, sets, line, product)?;
-        let count = counted(line, self.count, facts.as_slice())?;
-        let name = copy_name(alloc, name)?;
-        self.count = count;
-        self.expected.push(FactLine {
-            number: line,
-            name,
+            expects,
             facts,
         })?;
         Ok(())
@@ -240,8 +205,7 @@ impl Demands {
         match product {
             None => Ok(facts),
             Some(product) => {
-                let sets = self.sets.as_slice();
-                let rows = rows_of(alloc, false, &self.known, sets, line, product)?;
+                let rows = rows_of(alloc, false, &self.known, line, product)?;
                 let rights = rights_once(alloc, product.rights.as_slice())?;
                 let rows = rows.as_slice();
                 Ok(those_in(alloc, rights.as_slice(), rows, facts.as_slice())?)
@@ -261,7 +225,7 @@ impl Demands {
         ensures { Leaves result self.new
             (add_waive self.old line name.now product.now because.now) }
     {
-        let named = named_facts(alloc, line, name, self.forbidden.as_slice())?;
+        let named = named_facts(alloc, line, name, self.lines.as_slice())?;
         let those = self.waived_of(alloc, line, product, named)?;
         if those.as_slice().is_empty() {
             return Err(OrMemory::Fault(StandFault::Empty(line)));
@@ -291,10 +255,10 @@ impl Demands {
                 self.add_set(alloc, number, set, classes.as_slice())
             }
             PolicySays::Forbid { name, product } => {
-                self.add_forbid(alloc, number, name, product)
+                self.add_facts(alloc, false, number, name, product)
             }
             PolicySays::Expect { name, product } => {
-                self.add_expect(alloc, number, name, product)
+                self.add_facts(alloc, true, number, name, product)
             }
             PolicySays::Waive {
                 name,
@@ -307,25 +271,18 @@ impl Demands {
 
 /// What all lines stand for.
 fn stands(all: Demands) -> PolicyStands
-    ensures { result ≡ record {
-      forbidden = all.forbidden;
-      expected = all.expected;
-      waived = all.waived;
-    } }
+    ensures { result ≡ record { is_wide = true; lines = all.lines; waived = all.waived } }
 {
     let Demands {
         known,
-        sets,
         count: _,
-        forbidden,
-        expected,
+        lines,
         waived,
     } = all;
     drop(known);
-    drop(sets);
     PolicyStands {
-        forbidden,
-        expected,
+        is_wide: true,
+        lines,
         waived,
     }
 }

@@ -1,5 +1,5 @@
--- Believe. What a wiring says, of whichever version: the lines of version 3 that it stands for. One of
--- an older version stands for its own lines. This profile's own choice.
+-- Believe. What a wiring says, of whichever version: the lines of version 3 that it stands for. One
+-- of an older version stands for its own lines. This profile's own choice.
 use Rattle.std.specs.Prelude.{◌≡◌, ℕ, ◌⊎◌, List, Result, Ok, Err}
 use Rattle.mrc_base.specs.Reading.{◌>>=◌}
 use Rattle.mrc_wiring_text.specs.declared.faults.TextFault.{TextFault}
@@ -13,8 +13,7 @@ use Rattle.mrc_wiring_text.specs.Wiring.{wiring_edition, wiring_of}
 use Rattle.mrc_stand_for.specs.declared.faults.StandFault.{StandFault}
 use Rattle.mrc_stand_for.specs.declared.known.Known.{Known}
 use Rattle.mrc_stand_for.specs.declared.wide.WideSays.{WideSays}
-use Rattle.mrc_stand_for.specs.Known.{no_lines}
-use Rattle.mrc_stand_for.specs.Standing.{stand_for}
+use Rattle.mrc_stand_for.specs.Standing.{stand_for, known_of}
 use Rattle.mrc_wide_text.specs.WideReading.{wide_wiring_of}
 use Rattle.mrc_wide_text.specs.WideTexts.{IsWideWiring}
 
@@ -27,7 +26,7 @@ pub record Said : Type 0 where
 
 -- what lines of an older version say
 abbrev pub older_said : Edition → List (Line WiringSays) → Said
-older_said edition lines = record { edition = edition; lines = lines; end = Ok no_lines }
+older_said edition lines = record { edition = edition; lines = lines; end = Ok (known_of lines) }
 
 -- what lines of version 4 say: what they stand for, with the limits of version 3
 abbrev pub wide_said : List (Line WideSays) → Said

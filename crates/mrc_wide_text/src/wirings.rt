@@ -7,7 +7,7 @@ ghost use Rattle.mrc_wide_text.specs.Wirings.{older_of, said_of, wide_said, Says
 
 use crate::reading::read_wide_wiring;
 use mrc_base::OrMemory;
-use mrc_stand_for::{Known, StandFault, StandsFor, WideLine, stand_for};
+use mrc_stand_for::{Known, StandFault, StandsFor, WideLine, known_of, stand_for};
 use mrc_wiring_text::{Edition, TextFault, WiringLine, read_wiring, wiring_edition};
 use std::alloc::{AllocError, Global};
 use std::marker::Model;
@@ -20,8 +20,7 @@ pub struct Said {
     /// The lines that it stands for: all, or those in front of the first that is refused. Those of
     /// an older version are its own.
     pub lines: Vec<WiringLine>,
-    /// What is known after all lines, which for one of an older version is nothing; or why a line
-    /// is refused.
+    /// What is known after all lines, or why a line is refused.
     pub end: Result<Known, StandFault>,
 }
 
@@ -51,10 +50,11 @@ fn older_of(alloc: Global, wiring: &[u8]) -> Result<Said, OrMemory<TextFault>>
 {
     let edition = wiring_edition(alloc, wiring)?;
     let lines = read_wiring(alloc, wiring)?;
+    let known = known_of(alloc, lines.as_slice())?;
     Ok(Said {
         edition,
         lines,
-        end: Ok(Known::empty(alloc)),
+        end: Ok(known),
     })
 }
 

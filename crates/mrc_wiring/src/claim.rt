@@ -49,8 +49,14 @@ impl Model for Claim {
     ghost view = { λ c. record { table = c.wired; lines = c.lines.items } };
 }
 
+/// The holding that a line of a policy names; or that the wiring lacks its task, its port or its kind
+/// of births.
 #[tactic(auto, unfolding(crate::specs::Claims::forbidden))]
-fn forbidden(wired: &Wired, line: u32, says: &Forbid) -> Result<ForbiddenLine, OrMemory<ClaimFault>>
+pub fn forbidden(
+    wired: &Wired,
+    line: u32,
+    says: &Forbid,
+) -> Result<ForbiddenLine, OrMemory<ClaimFault>>
     ensures { Gives (λ forbids. forbids) result (forbidden wired.now line says.now) }
 {
     let task = wired
@@ -98,6 +104,13 @@ impl Claim {
             Ok(lines) => Ok(Claim { wired, lines }),
             Err(fault) => Err((wired, fault)),
         }
+    }
+
+    /// The claim that no task ever holds what these lines forbid.
+    pub fn over(wired: Wired, lines: Vec<ForbiddenLine>) -> Claim
+        ensures { result ≡ record { table = wired; lines = lines.items } }
+    {
+        Claim { wired, lines }
     }
 
     /// The wiring.

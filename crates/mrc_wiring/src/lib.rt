@@ -21,7 +21,7 @@ mod trusting;
 mod typed;
 mod wired;
 
-pub use claim::{Claim, ForbiddenLine};
+pub use claim::{Claim, ForbiddenLine, forbidden};
 pub use faults::{ClaimFault, ResolveFault};
 pub use finding::item_of;
 pub use interfaces::Interfaces;

@@ -18,7 +18,8 @@ returns c =
           c.as_slice-left_out.ensures.value c.in_ok-dropped.ensures.left_out)
           (λ none. sym c.as_slice.ensures.value ∙ c.in_ok-dropped.ensures.cut none)
           c.in_ok-notification.ensures c.in_ok-empty.ensures c.in_ok-named.ensures.plain
-          c.in_ok-named.ensures.leaky c.in_ok-named.ensures.dead
+          c.in_ok-named.ensures.leaky c.in_ok-named.ensures.dead c.in_ok-named.ensures.expects
+          c.in_ok-named.ensures.idle c.in_ok-named.ensures.unjudged
           (texts_so c.as_slice-2.result.now inside.trusted.items trusted
           c.as_slice-2.ensures.value c.in_ok-trusted.ensures)
           (three_so besides c.as_str.result.now c.as_str-2.result.now c.as_str-3.result.now empty

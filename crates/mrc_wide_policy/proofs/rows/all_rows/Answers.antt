@@ -8,7 +8,7 @@ use Rattle.mrc_wide_policy.proofs.rows.all_rows.Goals as goal
 pub loop-task-preserved : goal.loop-task-preserved
 loop-task-preserved c =
     each_goes
-    (add_row c.args.expects c.args.known.now c.args.sets.now c.args.line c.args.classes.now)
+    (add_row c.args.expects c.args.known.now c.args.line c.args.classes.now)
     _ _ _ c.args.tasks.now
     c.loop-task.task-index c.task-item.result (search rules) c.task-item.is
     c.loop-task.invariant c.in_ok-add_row.ensures
@@ -17,7 +17,7 @@ pub returns-in_err-add_row : goal.returns-in_err-add_row
 returns-in_err-add_row c =
     let p = err_from_is_err_and c.from_residual.result c.from_residual.ensures.1 in
     rw (p.1, p.2) (each_refused c.in_err-add_row.field-0.0
-    (add_row c.args.expects c.args.known.now c.args.sets.now c.args.line c.args.classes.now)
+    (add_row c.args.expects c.args.known.now c.args.line c.args.classes.now)
     _ _ c.args.tasks.now
     c.loop-task.task-index c.task-item.result (search rules) c.task-item.is
     c.loop-task.invariant c.in_err-add_row.ensures)
@@ -25,6 +25,6 @@ returns-in_err-add_row c =
 pub returns : goal.returns
 returns c =
     each_done
-    (add_row c.args.expects c.args.known.now c.args.sets.now c.args.line c.args.classes.now)
+    (add_row c.args.expects c.args.known.now c.args.line c.args.classes.now)
     _ _ c.args.tasks.now
     c.loop-task.task-index (search rules) c.loop-task.invariant

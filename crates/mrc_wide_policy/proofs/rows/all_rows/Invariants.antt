@@ -6,5 +6,5 @@ use Rattle.mrc_wide_policy.proofs.rows.all_rows.Given as goal
 
 abbrev pub invariant-loop-task : goal.invariant-loop-task
 invariant-loop-task l =
-    each (add_row l.expects l.known l.sets l.line l.classes) [] l.tasks
-    ≡ each (add_row l.expects l.known l.sets l.line l.classes) l.rows (drop l.task-index l.tasks)
+    each (add_row l.expects l.known l.line l.classes) [] l.tasks
+    ≡ each (add_row l.expects l.known l.line l.classes) l.rows (drop l.task-index l.tasks)

@@ -1,0 +1,18 @@
+use Rattle.std.proofs.Common.{refl}
+use Rattle.mrc_answer.proofs.VerdictLaws.{waived_is}
+use Rattle.mrc_answer.proofs.judging.waived_reply.Goals as goal
+
+pub returns : goal.returns
+returns c =
+    let found = c.args.found in
+    record {
+      policy = record {
+        stated = c.args.stated;
+        verdict = found.verdict;
+        told = found.told;
+        only = c.args.only;
+      };
+      is = refl;
+      right = waived_is c.args.line c.args.only c.args.files.now c.args.stated found _ c.requires.says c.requires.judged
+          c.requires.passed c.requires.same c.in-Ok.ensures;
+    }
