@@ -1,6 +1,7 @@
 -- Believe. Which lines of a policy hold while their task may come to hold another right on the same
 -- class. This profile's own choice.
-use Rattle.std.specs.Prelude.{◌&&◌, Bool, true, false, not, List, [], ◌∷◌, filter, flat_map}
+use Rattle.std.specs.Prelude.{◌&&◌, ◌==◌, ℕ, Bool, true, false, not, List, [], ◌∷◌}
+use Rattle.std.specs.Prelude.{filter, flat_map}
 use Rattle.std.specs.List.{list_any}
 use Rattle.mrc_base.specs.declared.Fact.{Fact}
 use Rattle.mrc_base.specs.declared.Fact.TheVariants.{Hold}
@@ -41,22 +42,30 @@ is_leak set forbidden line right =
 abbrev pub leaks_of : (set forbidden : Fact → Bool) → ForbiddenLine → List PortRight
 leaks_of set forbidden line = filter (is_leak set forbidden line) all_rights
 
--- the line with these rights, where it holds and there is one
+-- one of the lines of this number is broken by the set
+abbrev pub has_broken : (Fact → Bool) → List ForbiddenLine → ℕ → Bool
+has_broken set lines number =
+    list_any (λ line. is_broken set line && (number == line.line)) lines
+
+-- the line with these rights, where it is not broken and there is one
 abbrev pub leaky_line : Bool → ForbiddenLine → List PortRight → List LeakyLine
 leaky_line true line rights = []
 leaky_line false line [] = []
 leaky_line false line (right ∷ rights) = record { line = line; rights = right ∷ rights } ∷ []
 
--- the same of a line, by a set of facts and what is forbidden
-abbrev pub leaky_by : (set forbidden : Fact → Bool) → ForbiddenLine → List LeakyLine
-leaky_by set forbidden line =
-    leaky_line (is_broken set line) line (leaks_of set forbidden line)
+-- the same of a line, by a set of facts, what is forbidden, and the numbers of broken lines
+abbrev pub leaky_by : (set forbidden : Fact → Bool) (broken : ℕ → Bool)
+    → ForbiddenLine → List LeakyLine
+leaky_by set forbidden broken line =
+    leaky_line (broken line.line) line (leaks_of set forbidden line)
 
 -- the same of each line, in order
-abbrev pub all_leaky : (set forbidden : Fact → Bool) → List ForbiddenLine → List LeakyLine
-all_leaky set forbidden lines = flat_map (leaky_by set forbidden) lines
+abbrev pub all_leaky : (set forbidden : Fact → Bool) (broken : ℕ → Bool)
+    → List ForbiddenLine → List LeakyLine
+all_leaky set forbidden broken lines = flat_map (leaky_by set forbidden broken) lines
 
 -- Those of the lines that hold while the set gives to their task another right on their class, each
--- with these rights. A right that one of the lines forbids is none of them: that line is broken.
+-- with these rights. A right that one of the lines forbids is none of them: that line is broken. A
+-- line of a number of which one is broken does not hold.
 abbrev pub leaky_lines : (Fact → Bool) → List ForbiddenLine → List LeakyLine
-leaky_lines set lines = all_leaky set (is_forbidden lines) lines
+leaky_lines set lines = all_leaky set (is_forbidden lines) (has_broken set lines) lines
