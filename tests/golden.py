@@ -11,7 +11,7 @@ from pathlib import Path
 from typing import NamedTuple
 
 ROWS = Path(__file__).resolve().parent / "rows"
-TABLES = ["faults", "messages", "options", "answers", "json_answers"]
+TABLES = ["faults", "messages", "options", "answers", "json_answers", "policies"]
 SECONDS = 300
 # What of a row says how it runs and what it gives: the program sees none of these files.
 TOLD = ["args", "how", "make.py", "stdout", "stderr", "hints", "terminal", "status", "written"]

@@ -331,7 +331,7 @@ machcheck: p: BadLine 1
 p:1:1
   wiring 1
   ^^^^^^
-  expected: policy 1 or policy 2
+  expected: policy 1, policy 2 or policy 3
   this is the heading of a wiring: the options --wiring and --policy may be exchanged
 """)
 policy("a kind in a policy of version 1", "policy 1\nforbid client send births server 1\n", """\
@@ -342,12 +342,12 @@ p:2:34
   expected: the end of the line
   up to here it is a line of version 2: the heading says policy 1
 """)
-policy("another version of a policy", "policy 3\n", """\
+policy("another version of a policy", "policy 4\n", """\
 machcheck: p: Version
 p:1:8
-  policy 3
+  policy 4
          ^
-  expected: 1 or 2
+  expected: 1, 2 or 3
 """)
 
 # Names of a wiring.

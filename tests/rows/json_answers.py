@@ -12,8 +12,10 @@ ROWS = []
 
 def written(name, words, files, status, /, err=None, made=None, **members):
     """The words without `--format json`, the files that are made, and the members of the object. On standard error come the
-    notices, or `err`. The objects of `mig` that are no faults have a schema of their own."""
+    notices, or `err`. The objects of `mig` that are no faults have a schema of their own. No policy here expects or waives."""
     command, *words = words_in(words)
+    if command == "verify" and members["answer"] != "fault":
+        members.update(unmet=[], waived=[])
     line = json.dumps({"schema": 1, **members}, ensure_ascii=False, separators=(",", ":"), sort_keys=True)
     err = "".join(f"{notice}\n" for notice in members.get("notices", [])) if err is None else err
     ROWS.append({"name": name, "args": [command, "--format", "json", *words], "files": files, "status": status,
@@ -53,7 +55,7 @@ CHAIN = [
     step("K1", hold("loader", "task:server", "send"), by=line_of(4)),
     step("K7", CONTROL, 1, 0, by={"kind": "task", "task": "server"}),
 ]
-BROKEN = {"fact": CONTROL, "line": 2, "steps": CHAIN, "text": "forbid server send task loader"}
+BROKEN = {"fact": CONTROL, "line": 2, "name": None, "steps": CHAIN, "text": "forbid server send task loader"}
 written("a YES", ASKED, {"w": "wiring 1\ntask loader\ntask server\n", "p": FORBID}, 0,
         answer="YES", command="verify", notices=[])
 written("a NO", ASKED, {"w": LOADER, "p": FORBID}, 1, answer="NO", broken=[BROKEN], command="verify", common=None,
@@ -71,6 +73,7 @@ SEVERAL = FORBID + "forbid server receive births loader\n"
 BIRTHS = {
     "fact": hold("server", "births:loader", "receive"),
     "line": 3,
+    "name": None,
     "steps": [
         step("K1", hold("loader", "task:server", "send"), by=line_of(4)),
         step("K2", hold("loader", "births:loader", "receive")),
@@ -87,15 +90,15 @@ OVER = {"w": "wiring 3\ntask proc\ntask guest\nhold guest send task proc\ntrust 
         "p": "policy 1\nforbid guest send task proc\nforbid proc receive births proc\n"}
 OVER_PROC = hold("guest", "task:proc", "send")
 written("one line, and a trusted task", f"{ASKED} --line 2", OVER, 1, answer="NO", command="verify", common=None, notices=[],
-        broken=[{"fact": OVER_PROC, "line": 2, "steps": [step("K1", OVER_PROC, by=line_of(4))],
+        broken=[{"fact": OVER_PROC, "line": 2, "name": None, "steps": [step("K1", OVER_PROC, by=line_of(4))],
                  "text": "forbid guest send task proc"}],
-        exposed={"fact": OVER_PROC, "line": 5, "steps": [step("K1", OVER_PROC, by=line_of(4))],
+        exposed={"fact": OVER_PROC, "line": 5, "name": None, "steps": [step("K1", OVER_PROC, by=line_of(4))],
                  "text": "trust proc takes none"})
 TRUSTED = {"w": "wiring 3\ntask proc\ntask guest\nhold guest send task proc\n trust proc takes none # so \n",
            "p": "policy 1\n"}
 EXPOSED = hold("guest", "task:proc", "send")
 written("a trusted task", ASKED, TRUSTED, 1, answer="NO", broken=[], command="verify", common=None,
-        exposed={"fact": EXPOSED, "line": 5, "steps": [step("K1", EXPOSED, by=line_of(4))],
+        exposed={"fact": EXPOSED, "line": 5, "name": None, "steps": [step("K1", EXPOSED, by=line_of(4))],
                  "text": "trust proc takes none # so"},
         notices=["machcheck: p: forbids nothing"])
 written("a YES with notices", ASKED, {"w": "wiring 3\ntask proc\ntrust proc takes none\n", "p": "policy 1\n"}, 0,
@@ -103,7 +106,7 @@ written("a YES with notices", ASKED, {"w": "wiring 3\ntask proc\ntrust proc take
 GIVEN = {"argument": "file", "kind": "slot", "routine": "open", "subsystem": "fs", "type": "file_t"}
 TAKEN = hold("client", "task:server", "send")
 written("a chain of messages", f"{ASKED} fs.defs", CLIENT, 1, answer="NO", command="verify", common=None, exposed=None,
-        notices=[], broken=[{"fact": TAKEN, "line": 2, "text": "forbid client send task server", "steps": [
+        notices=[], broken=[{"fact": TAKEN, "line": 2, "name": None, "text": "forbid client send task server", "steps": [
             step("K1", hold("client", "port:root", "send"), by=line_of(6)),
             step("K2", hold("client", "births:client", "receive")),
             step("K1", hold("server", "port:root", "receive"), by=line_of(4)),

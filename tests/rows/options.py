@@ -11,10 +11,10 @@ def row(name, words, err):
 
 
 OPTIONS = {command: options.split(" ") for command, options in {
-    "verify": "wiring policy tree brief line format verbose",
-    "mend": "wiring policy line most format verbose",
-    "attack": "wiring policy line most format verbose",
-    "check": "wiring policy cert format verbose",
+    "verify": "wiring policy tree brief line waive format verbose",
+    "mend": "wiring policy line waive most format verbose",
+    "attack": "wiring policy line waive most format verbose",
+    "check": "wiring policy cert waive format verbose",
     "make": "wiring out workers verbose",
     "explain": "wiring fact by format verbose",
     "facts": "wiring cert task class right format verbose",
