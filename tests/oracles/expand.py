@@ -140,9 +140,13 @@ class Reader:
         whom, kind = self.whom(), 0
         if self.has("any"):
             kind = self.next()
-        elif self.peek() not in (None, ","):
+        elif not self.is_behind_class():
             kind = self.kind()
         return "births", whom, kind
+
+    def is_behind_class(self):
+        """Whether a CLASS ends here, and names no kind."""
+        return self.peek() in (None, ",")
 
     def fixed_class(self):
         """CLASS in a line that has no holder."""
@@ -285,6 +289,8 @@ class Standing:
 
     def __init__(self, names=None):
         self.tasks, self.groups, self.sets, self.ports = [], {}, {}, []
+        # Each set without the ports that are births, unless it names them.
+        self.bare_sets = {}
         self.births, self.members = {}, {}
         self.are_tasks_closed, self.closed_kinds, self.closed_births = False, set(), set()
         self.lines, self.names = [], names
@@ -335,31 +341,33 @@ class Standing:
     def kinds_of(self, task):
         return sorted({0} | {kind for of, kind in self.births if of == task})
 
-    def births_of(self, task, kind):
-        """The classes that are births of a kind, or of any: the ports that are such births are among them."""
+    def births_of(self, task, kind, is_bare=False):
+        """The classes that are births of a kind, or of any. The ports that are such are among them, unless `is_bare`."""
         if kind == "any":
             self.closes.append(lambda: self.closed_kinds.add(task))
-            return [c for k in self.kinds_of(task) for c in self.births_of(task, k)]
+            return [c for k in self.kinds_of(task) for c in self.births_of(task, k, is_bare)]
         if kind not in self.kinds_of(task):
             self.fault("UnknownName")
         self.closes.append(lambda: self.closed_births.add((task, kind)))
         own = ("births", task, str(kind)) if kind else ("births", task)
-        return [own, *(("port", port) for port in self.members.get((task, kind), []))]
+        return [own, *(("port", port) for port in self.members.get((task, kind), []) if not is_bare)]
 
-    def class_of(self, said, holder):
+    def class_of(self, said, holder, is_bare):
         word, whose, *kind = said
         if word == "port":
             return [self.port_of(whose)]
         if word == "set":
             if whose not in self.sets:
                 self.fault("UnknownName")
-            return self.sets[whose]
+            return (self.bare_sets if is_bare else self.sets)[whose]
         tasks = self.tasks_of(whose, holder)
-        return [("task", t) for t in tasks] if word == "task" else [c for t in tasks for c in self.births_of(t, *kind)]
+        if word == "task":
+            return [("task", t) for t in tasks]
+        return [c for t in tasks for c in self.births_of(t, *kind, is_bare)]
 
-    def classes_of(self, classes, holder=None):
-        """CLASSES, and the places of a `hold` line."""
-        return once(c for said in classes for c in self.class_of(said, holder))
+    def classes_of(self, classes, holder=None, is_bare=False):
+        """CLASSES, and the places of a `hold` line. With `is_bare` a port that is births is there only if it is named."""
+        return once(c for said in classes for c in self.class_of(said, holder, is_bare))
 
     # Lines
 
@@ -374,10 +382,10 @@ class Standing:
         return []
 
     def stand_set(self, name, classes):
-        found = self.classes_of(classes)
+        found, bare = self.classes_of(classes), self.classes_of(classes, is_bare=True)
         if name in self.sets:
             self.fault("TwiceNamed")
-        self.sets[name] = found
+        self.sets[name], self.bare_sets[name] = found, bare
         return []
 
     def stand_port(self, port, task, items):
@@ -430,7 +438,7 @@ class Standing:
         key, name = words[:2]
         if key == "task" and self.are_tasks_closed:
             self.fault("Late")
-        if key == "births" and (name in self.closed_kinds or (name, int(words[2])) in self.members):
+        if key == "births" and (name in self.closed_kinds or (name, Names.kind_of(words)) in self.members):
             self.fault("Late")
         if self.names:
             self.names.judge(self.number, words, name in self.groups, len(self.lines) >= MOST_STOOD)
@@ -440,8 +448,7 @@ class Standing:
         elif key == "port":
             self.ports.append(name)
         elif key == "births":
-            items = Reader(words[4:]).items()
-            self.births[name, int(words[2])] = items
+            self.births[name, Names.kind_of(words)] = Names.items_of(words)
 
     def stand_for(self, lines):
         """All lines of a text, as numbers and what they say."""
@@ -648,13 +655,13 @@ class Stood:
             raise Fault("TwiceNamed 0")
         if names and len(files) > MOST_FILES[self.version]:
             raise Fault("TooMany 0")
+        self.standing = Standing(names)
         if self.version == 4:
-            standing = Standing(names).stand_for(said)
-            self.lines, self.members = standing.lines, standing.members
+            self.standing.stand_for(said)
         else:
-            self.lines, self.members = said, {}
-            for number, words in said if names else []:
-                names.judge(number, words)
+            for self.standing.number, words in said:
+                self.standing.add_part(words)
+        self.lines, self.members = self.standing.lines, self.standing.members
 
     def text(self):
         """What `expand` prints."""
@@ -687,6 +694,8 @@ WORDS = [
 
 class Maker:
     """Makes random wirings of version 4 over interfaces: first lines that are right, and then such that may not be."""
+
+    strange = WORDS
 
     def __init__(self, chance, interfaces):
         self.random, self.interfaces = chance, interfaces
@@ -858,14 +867,21 @@ class Maker:
             self.spoil(lines)
         return lines
 
+    def makes(self):
+        """What makes a line of each kind."""
+        found = [self.task, self.group, self.set, self.port, self.port_of, self.births, self.births_replies]
+        return found + [self.hold, self.admit, self.trust, self.fit]
+
+    def of_nobody(self, tasks):
+        """A line of TASKS that may be none."""
+        return self.random.choice([["group", "h", *tasks], ["trust", *tasks, "sends", "none"]])
+
     def spoil(self, lines):
         at = self.random.randrange(len(lines))
         hows = ["add", "move", "twice", "drop", "put", "cut", "insert", "empty"]
         how = self.random.choices(hows, [5, 3, 2, 2, 1, 1, 1, 1.5])[0]
         if how == "add":
-            does = [self.task, self.group, self.set, self.port, self.port_of, self.births, self.births_replies]
-            does += [self.hold, self.admit, self.trust, self.fit]
-            lines.insert(self.random.choice([at, len(lines), len(lines)]), self.random.choice(does)())
+            lines.insert(self.random.choice([at, len(lines), len(lines)]), self.random.choice(self.makes())())
         elif how == "move":
             lines.insert(self.random.randrange(len(lines)), lines.pop(at))
         elif how == "twice":
@@ -873,13 +889,11 @@ class Maker:
         elif how == "drop" and len(lines) > 1:
             lines.pop(at)
         elif how == "empty":
-            every = ["all", "but", *self.listed(self.stood.tasks)]
-            lines.append(self.random.choice([["group", "h", *every], ["trust", *every, "sends", "none"]]))
-            lines[-1] += [",", "nobody"] * self.often(0.2)
+            lines.append(self.of_nobody(["all", "but", *self.listed(self.stood.tasks)] + [",", "nobody"] * self.often(0.2)))
         else:
             words = lines[at]
             place = self.random.randrange(len(words))
-            some = self.random.choice([WORDS, [word for line in lines for word in line]])
+            some = self.random.choice([self.strange, [word for line in lines for word in line]])
             if how == "cut" and len(words) > 1:
                 words.pop(place)
             elif how == "insert":

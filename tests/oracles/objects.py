@@ -11,12 +11,16 @@ import re
 from dataclasses import dataclass, field
 from pathlib import Path
 
+import policy3
 from expand import Stood, version_of
 
 COMMANDS = ["verify", "mend", "attack", "check", "explain", "facts", "graph", "slots", "promises", "replay", "live", "mig"]
 # The options with a word, and those without one.
 WORDED = ["wiring", "policy", "cert", "script", "fact", "task", "class", "right", "most", "line", "out", "format"]
 FACT_TEXT = r"hold \S+ \S+ \S+|carry \S+ \S+ \S+|backup \S+ \S+"
+# A line of a policy may have a name, and a fact that is waived has a reason.
+NAME_TEXT = r'(?: "([^"]+)")?'
+HEAD_TEXT = re.compile(rf"(?:NO (trusted|forbidden|expected)|WAIVED) line (\d+){NAME_TEXT} ({FACT_TEXT}){NAME_TEXT}")
 STEP_TEXT = re.compile(rf"(\d+) (K\d+) ({FACT_TEXT})(?: from (\d+)(?: (\d+))?)?(?: by (.+))?")
 SLOT_TEXT = re.compile(r"(\w+)\.(\w+)\.(\w+) \((\w+)\.(\w+)\)")
 
@@ -74,7 +78,11 @@ BY = (
     {"kind": "task", "task": NAME},
 )
 STEP = {"by": BY, "fact": FACT, "from": [int], "rule": RULE}
-BROKEN = {"fact": FACT, "line": int, "steps": [STEP], "text": str}
+UNMET = {"fact": FACT, "line": int, "name": (None, str), "text": str}
+WAIVED = {"because": str, **UNMET}
+BROKEN = {"steps": [STEP], **UNMET}
+# What is asked of a fact that is expected, or waived.
+ASKED = {"unmet": [UNMET], "waived": [WAIVED]}
 REASON = {
     "fact": (None, FACT),
     "kind": ("counts", "missing", "not closed", "trusted", "forbidden"),
@@ -138,8 +146,10 @@ LEFT = {
 }
 TYPE = {"file": str, "line": int, "name": str, "text": str, "word": WORDS}
 ANSWER = (
-    {"answer": "YES", "command": ("verify", "attack", "check"), "notices": [str], "schema": 1},
+    {"answer": "YES", "command": ("attack", "check"), "notices": [str], "schema": 1},
+    {"answer": "YES", "command": "verify", "notices": [str], "schema": 1, **ASKED},
     {
+        **ASKED,
         "answer": "NO",
         "broken": [BROKEN],
         "command": "verify",
@@ -372,7 +382,7 @@ def line_of(path, number):
 
 def first_common(lines):
     """What the first line says that several chains have in common, if it does, and the other lines."""
-    found = re.fullmatch(rf"# (\d+) of (\d+) lines by: ({FACT_TEXT})", lines[0])
+    found = re.fullmatch(rf"# (\d+) of (\d+) lines by: ({FACT_TEXT})", lines[0]) if lines else None
     if not found:
         return None, None, lines
     return {"fact": fact_object(found[3]), "lines": int(found[1])}, int(found[2]), lines[1:]
@@ -389,25 +399,54 @@ def blocks(lines):
     return found
 
 
-def broken_object(head, below, folder, asked):
-    """An exposed task or a broken line: whether it is the first, and its object."""
-    kind, line, fact = re.fullmatch(rf"NO (trusted|forbidden) line (\d+) ({FACT_TEXT})", head).groups()
+def head_object(head, below, folder, asked):
+    """What is told of a fact: the kind of the line, and its object. Behind what has no chain the line of the policy need not
+    be shown."""
+    kind, line, name, fact, because = HEAD_TEXT.fullmatch(head).groups()
+    if (kind is None) != (because is not None) or kind == "trusted" and name is not None:
+        raise Wrong(f"no line of an answer: {head}")
     text = line_of(folder / asked.options["wiring" if kind == "trusted" else "policy"], int(line))
-    if below[0] != f"# {shown(text)}":
-        raise Wrong(f"another quote than {shown(text)!r}: {below[0]!r}")
-    steps = [] if asked.has("brief") else steps_object(below[1:])
-    return kind == "trusted", {"fact": fact_object(fact), "line": int(line), "steps": steps, "text": text}
+    quote, has_chain = f"# {shown(text)}", kind in ("trusted", "forbidden")
+    if below[:1] != [quote] and (has_chain or below):
+        raise Wrong(f"another quote than {quote!r}: {below[:1]!r}")
+    made = {"fact": fact_object(fact), "line": int(line), "name": name, "text": text}
+    if has_chain:
+        made["steps"] = [] if asked.has("brief") else steps_object(below[1:])
+    elif below[1:]:
+        raise Wrong(f"a chain of {head}")
+    if because is not None:
+        made["because"] = because
+    return kind or "waived", made
+
+
+def asked_objects(lines, folder, asked):
+    """What lines tell that are asked of facts: the objects of each kind."""
+    found = {"trusted": [], "forbidden": [], "expected": [], "waived": []}
+    for block in blocks(lines):
+        kind, made = head_object(*block, folder, asked)
+        found[kind].append(made)
+    return found
+
+
+def without_yes(printed):
+    """The lines of an answer without YES, which is the last of them with status 0, and is not there otherwise."""
+    lines = printed.lines()
+    if (lines[-1:] == ["YES"]) != (printed.status == 0):
+        raise Wrong(f"YES does not go with the status: {printed}")
+    return lines[:-1] if printed.status == 0 else lines
 
 
 def verify_object(folder, asked, texts):
     told = {"command": "verify", "notices": texts.plain.notices(), "schema": 1}
-    if texts.whole.out == "YES\n":
+    common, count, lines = first_common(without_yes(texts.whole))
+    found = asked_objects(lines, folder, asked)
+    told |= {"unmet": found["expected"], "waived": found["waived"]}
+    if texts.whole.status == 0:
+        if found["trusted"] or found["forbidden"] or found["expected"]:
+            raise Wrong(f"YES behind a line of NO: {lines}")
         return {"answer": "YES", **told}
-    common, count, lines = first_common(texts.whole.lines())
-    found = [broken_object(head, below, folder, asked) for head, below in blocks(lines)]
-    _, _, every = first_common(texts.every.lines())
-    exposed = [made for is_task, made in (broken_object(*block, folder, asked) for block in blocks(every)) if is_task]
-    broken = [made for is_task, made in found if not is_task]
+    exposed = asked_objects(first_common(without_yes(texts.every))[2], folder, asked)["trusted"]
+    broken = found["forbidden"]
     if common and (count != len(broken) or asked.has("line")):
         raise Wrong(f"{count} lines are broken of {len(broken)}")
     return {"answer": "NO", "broken": broken, "common": common, "exposed": exposed[0] if exposed else None, **told}
@@ -418,7 +457,8 @@ def reason_object(line):
     made = dict(COUNTS)
     if line == "NO counts":
         return made
-    kind, number, fact = re.fullmatch(rf"NO (missing|not closed K\d+|\w+ line (\d+))(?: ({FACT_TEXT}))?", line).groups()
+    form = rf"NO (missing|not closed K\d+|\w+ line (\d+)){NAME_TEXT}(?: ({FACT_TEXT}))?"
+    kind, number, _, fact = re.fullmatch(form, line).groups()
     made["kind"] = kind.split(" line")[0].split(" K")[0]
     made["fact"] = fact_object(fact) if fact else None
     made["line"] = int(number) if number else None
@@ -441,14 +481,17 @@ def cut_lines(notices):
 
 
 def attack_object(folder, asked, texts):
+    """What is said of attacks. What is told beside them, of what is expected or waived, is not in the object."""
     told = {"command": "attack", "notices": texts.plain.notices(), "schema": 1}
-    if texts.plain.out == "YES\n":
-        return {"answer": "YES", **told}
-    lines, cut, attacks = texts.plain.lines(), cut_lines(texts.plain.notices()), []
+    lines, cut, attacks = without_yes(texts.plain), cut_lines(texts.plain.notices()), []
     if asked.has("line"):
-        heads = ("# REAL ", "NO ")
-        lines = [line.removeprefix("# ") if line.startswith(heads) else f"  {line}" for line in lines]
+        # Of one line the output is a script: what is told beside its calls may be a comment.
+        heads = re.compile(r"(?:# )?(?=WAIVED line |NO expected line )|# (?=REAL line )|(?=NO line )")
+        lines = [heads.sub("", line, count=1) if heads.match(line) else f"  {line}" for line in lines]
     for head, calls in blocks(lines):
+        if head.startswith(("NO expected ", "WAIVED ")):
+            head_object(head, calls, folder, asked)
+            continue
         word, trusted, line, fact, behind = re.fullmatch(
             rf"(REAL|NO) (trusted )?line (\d+) ({FACT_TEXT})( not reached)?", head).groups()
         if (word == "NO") != bool(behind) or word == "NO" and calls:
@@ -456,6 +499,8 @@ def attack_object(folder, asked, texts):
         text = line_of(folder / asked.options["wiring" if trusted else "policy"], int(line))
         attacks.append({"calls": calls, "cut": (bool(trusted), int(line)) in cut, "fact": fact_object(fact),
                         "line": int(line), "real": word == "REAL", "text": text, "trusted": bool(trusted)})
+    if texts.plain.status == 0:
+        return {"answer": "YES", **told}
     return {"answer": "attacks", "attacks": attacks, **told}
 
 
@@ -603,18 +648,30 @@ def drawn_edges(value, nodes):
     return edges
 
 
+def hold_text(fact):
+    """The text of a hold of a task, a right, and the words of a class."""
+    task, right, c = fact
+    return f"hold {task} {':'.join(c)} {right}"
+
+
 def forbidden_lines(folder, asked):
     """The first line of the policy that forbids each hold, by the text of the hold."""
     if not asked.has("policy"):
         return {}
-    lines, found = (folder / asked.options["policy"]).read_text().split("\n"), {}
-    members = Stood((folder / asked.options["wiring"]).read_text()).members
-    for number, line in enumerate(lines, 1):
+    policy, found = (folder / asked.options["policy"]).read_text(), {}
+    standing = Stood((folder / asked.options["wiring"]).read_text()).standing
+    if policy3.version_of(policy) == 3:
+        lines = policy3.asked(policy, standing).lines
+        pairs = [(line.number, fact) for line in lines if line.key == "forbid" for fact in line.facts]
+        for number, fact in pairs:
+            found.setdefault(hold_text(fact), number)
+        return found
+    for number, line in enumerate(policy.split("\n"), 1):
         if (words := line.split("#")[0].split())[:1] == ["forbid"]:
             _, task, right, sort, name, *kind = words
             kind = int(kind[0]) if kind else 0
             found.setdefault(f"hold {task} {sort}:{name}{f':{kind}' if kind else ''} {right}", number)
-            for port in members.get((name, kind), []) if sort == "births" else []:
+            for port in standing.members.get((name, kind), []) if sort == "births" else []:
                 found.setdefault(f"hold {task} port:{port} {right}", number)
     return found
 

@@ -9,10 +9,10 @@ import re
 import urllib.parse
 from pathlib import Path
 
-from objects import FACT_TEXT, blocks, first_common
+from objects import HEAD_TEXT, blocks, first_common, without_yes
 
 LEVELS = ("none", "note", "warning", "error")
-RULES = ["forbidden", "trusted"]
+RULES = ["forbidden", "trusted", "expected"]
 # A relative reference (RFC 3986, section 4.2) of a path: no colon in the first part, no query, no fragment.
 SIGN = r"[A-Za-z0-9._~!$&'()*+,;=@-]|%[0-9A-Fa-f]{2}"
 URI = re.compile(rf"(?!//)(?=.)(?:{SIGN})*(?:/(?:{SIGN}|:|/)*)?")
@@ -68,9 +68,13 @@ OBJECTS = {
         "kind": ("notApplicable", "pass", "fail", "review", "open", "informational"), "analysisTarget": "artifactLocation",
         "locations": ["location"], "guid": str, "correlationGuid": str, "occurrenceCount": int, "partialFingerprints": ANY,
         "fingerprints": ANY, "stacks": ANY, "codeFlows": ["codeFlow"], "graphs": ANY, "graphTraversals": ANY,
-        "relatedLocations": ["location"], "suppressions": ANY, "baselineState": str, "rank": int, "attachments": ANY,
-        "hostedViewerUri": str, "workItemUris": [str], "provenance": ANY, "fixes": ANY, "taxa": ANY, "webRequest": ANY,
-        "webResponse": ANY,
+        "relatedLocations": ["location"], "suppressions": ["suppression"], "baselineState": str, "rank": int,
+        "attachments": ANY, "hostedViewerUri": str, "workItemUris": [str], "provenance": ANY, "fixes": ANY, "taxa": ANY,
+        "webRequest": ANY, "webResponse": ANY,
+    },
+    "suppression": {
+        "guid": str, "kind!": ("inSource", "external"), "status": ("accepted", "underReview", "rejected"),
+        "justification": str, "location": "location", "properties": ANY,
     },
     "message": {"text": str, "markdown": str, "id": str, "arguments": [str], "properties": ANY},
     "location": {
@@ -130,7 +134,8 @@ def wrong_flow(made):
 
 
 def wrong_run(made):
-    """3.27.6: the number of a result's rule is that of a rule with its id; and each id is there once."""
+    """3.27.6: the number of a result's rule is that of a rule with its id; and each id is there once. 3.27.23: each result
+    has suppressions, of which there may be none, or no result has."""
     rules = [rule["id"] for rule in made["tool"]["driver"].get("rules", [])]
     if len(set(rules)) != len(rules):
         return f"two rules have one id: {rules}"
@@ -138,6 +143,8 @@ def wrong_run(made):
         index = result.get("ruleIndex", -1)
         if index >= len(rules) or index >= 0 and rules[index] != result.get("ruleId"):
             return f"rule {index} is not {result.get('ruleId')}"
+    if len({"suppressions" in result for result in made.get("results", [])}) > 1:
+        return "only some results have suppressions"
     return None
 
 
@@ -246,15 +253,27 @@ def place_in(location):
     return urllib.parse.unquote(uri, errors="strict"), place["region"]["startLine"]
 
 
-def result_differs(result, kind, line, fact, steps, folder, asked):
+def order_of(told):
+    """A number by which what the text tells comes in the order of the results: what is waived and what is lacking is last."""
+    return {"trusted": 0, "forbidden": 1}.get(HEAD_TEXT.fullmatch(told[0])[1], 2)
+
+
+def result_differs(result, head, steps, folder, asked):
     """What of a result is not what the text says, or None."""
+    kind, line, _, fact, because = HEAD_TEXT.fullmatch(head).groups()
+    line, rule = int(line), kind or "forbidden"
     file = asked.options["wiring" if kind == "trusted" else "policy"]
-    if result["ruleId"] != kind or result.get("level", "warning") != "error" or result.get("kind", "fail") != "fail":
+    if result["ruleId"] != rule or [result.get("level", "warning"), result.get("kind", "fail")] != ["error", "fail"]:
         return f"another rule or level: {result}"
     if [place_in(location) for location in result["locations"]] != [(file, line)]:
         return f"another place than line {line} of {file}: {result['locations']}"
     if fact not in result["message"]["text"]:
         return f"a message without {fact}: {result['message']}"
+    reasons = [made.get("justification") for made in result.get("suppressions", []) if made.get("status") != "rejected"]
+    if reasons != ([] if because is None else [because]):
+        return f"other suppressions than {because!r}: {result.get('suppressions')}"
+    if kind not in ("trusted", "forbidden"):
+        return f"a chain of {head}" if result.get("codeFlows") else None
     ((flow,),) = [flow["threadFlows"] for flow in result["codeFlows"]]
     told = [(place["location"]["message"]["text"], place_in(place["location"])) for place in flow["locations"]]
     sources = [(re.search(" by (.+)", step) or [None, None])[1] for step in steps]
@@ -277,12 +296,11 @@ def differs(log, folder, asked, texts):
         return f"other rules: {run['tool']}"
     if run["columnKind"] != "unicodeCodePoints":
         return "columns are characters"
-    found = [] if texts.plain.status == 0 else blocks(first_common(texts.whole.lines())[2])
+    found = sorted(blocks(first_common(without_yes(texts.whole))[2]), key=order_of)
     if len(run["results"]) != len(found):
         return f"{len(run['results'])} results of {len(found)} lines"
     for result, (head, below) in zip(run["results"], found):
-        kind, line, fact = re.fullmatch(rf"NO (trusted|forbidden) line (\d+) ({FACT_TEXT})", head).groups()
-        wrong_part = result_differs(result, kind, int(line), fact, below[1:], Path(folder), asked)
+        wrong_part = result_differs(result, head, below[1:], Path(folder), asked)
         if wrong_part:
             return wrong_part
     return None

@@ -6,12 +6,14 @@ verdict of a policy, the steps of a chain and what they name, a search for the s
 a NO.
 """
 
+import functools
 import heapq
 import itertools
 import re
 import struct
 from dataclasses import dataclass, field, replace
 
+import policy3
 from expand import Stood, version_of
 
 SEND, RECEIVE, ONCE = 0, 1, 2
@@ -278,7 +280,7 @@ class System:
 
     def __init__(self, defs, wiring):
         self.interfaces = {made.name: made for made in (Mig(text).interface() for text in defs)}
-        self.lines, self.members = lines_of(wiring), {}
+        self.text, self.lines, self.members = wiring, lines_of(wiring), {}
         if version_of(wiring)[0] == 4:
             stood = Stood(wiring)
             self.lines, self.members = stood.lines, stood.members
@@ -307,6 +309,21 @@ class System:
         c = class_of(words)
         ports = self.members.get((c.name, c.kind), []) if c.sort == "births" else []
         return [self.number[c], *(self.number[Class("port", port)] for port in ports)]
+
+    @functools.cached_property
+    def standing(self):
+        """What the lines of the wiring have named."""
+        return Stood(self.text).standing
+
+    def numbered(self, fact):
+        """The hold of a task, a right, and the words of a class."""
+        task, right, c = fact
+        return HOLD, self.tasks.index(task), self.number[class_of(c)], RIGHTS.index(right)
+
+    def named_holds(self, facts):
+        """The holds of a set of facts, as tasks, rights, and words of classes."""
+        words = [tuple(c.text().split(" ")) for c in self.classes]
+        return {(self.tasks[t], RIGHTS[r], words[c]) for kind, t, c, r in facts if kind == HOLD}
 
     def kernel(self, task):
         """The class of a task's kernel port."""
@@ -579,19 +596,23 @@ def certificate_of(system, facts):
 # Policies
 
 
-def forbidden(system, policy):
-    """The facts that a policy forbids, each by the number of its line."""
-    said = [(line, words[1:]) for line, words in lines_of(policy)]
-    return [
-        (line, (HOLD, system.tasks.index(task), c, RIGHTS.index(right)))
-        for line, (task, right, *words) in said
-        for c in system.named(words)
-    ]
+def asked_of(system, policy):
+    """What a policy asks, with facts by numbers."""
+    if policy3.version_of(policy) not in (1, 2):
+        asked = policy3.asked(policy, system.standing)
+        lines = [line._replace(facts=[*map(system.numbered, line.facts)]) for line in asked.lines]
+        return policy3.Asked(lines, {system.numbered(fact): because for fact, because in asked.waived.items()})
+    lines = []
+    for number, (_, task, right, *words) in lines_of(policy):
+        facts = [(HOLD, system.tasks.index(task), c, RIGHTS.index(right)) for c in system.named(words)]
+        lines.append(policy3.Line("forbid", number, None, facts))
+    return policy3.Asked(lines, {})
 
 
-def broken(system, policy, facts):
-    """The lines that are broken in a set of facts, with what each forbids."""
-    return [(line, fact) for line, fact in forbidden(system, policy) if fact in facts]
+def broken(asked, facts, is_waived=False):
+    """The lines that are broken in a set of facts, with what each forbids, and with what is waived unless it `is_waived`."""
+    kinds = ["forbidden"] if is_waived else ["forbidden", "waived"]
+    return [(answer.line, answer.fact) for answer in asked.answers(facts) if answer.kind in kinds]
 
 
 def exposed(system, facts):
@@ -756,30 +777,38 @@ def changes(system, facts):
 
 
 class Judge:
-    """Judges a wiring with changes, and tells how many facts of the first least set are lost."""
+    """Judges a wiring with changes, and tells how many facts of the first least set are lost. Facts that a policy waives
+    are as forbidden, unless `is_waived`."""
 
-    def __init__(self, defs, wiring, policy):
-        self.defs, self.wiring, self.policy = defs, wiring, policy
+    def __init__(self, defs, wiring, policy, is_waived=False):
+        self.defs, self.wiring, self.is_waived = defs, wiring, is_waived
         self.system = System(defs, wiring)
         self.facts = self.system.least()
-        self.broken = broken(self.system, policy, self.facts)
+        self.asked = asked_of(self.system, policy)
+        self.broken = broken(self.asked, self.facts, is_waived)
         self.exposed = exposed(self.system, self.facts)
 
-    def lost(self, removed, added, changed=()):
-        """How many facts are lost by these changes, or None where the answer is still NO. Changes leave the classes
-        as they are, so facts keep their numbers."""
+    def lacks(self, facts):
+        """Whether a fact that the policy expects is not there."""
+        return not facts.issuperset(self.asked.expected())
+
+    def with_changes(self, removed, added, changed):
+        """The system with these changes, and its facts. Changes leave the classes as they are, so facts keep their numbers."""
         other = System(self.defs, mended(self.wiring, removed, added, changed))
-        facts = other.least()
-        if exposed(other, facts) or broken(other, self.policy, facts):
+        return other, other.least()
+
+    def lost(self, removed, added, changed=()):
+        """How many facts are lost by these changes, or None where the answer is still NO."""
+        other, facts = self.with_changes(removed, added, changed)
+        if exposed(other, facts) or broken(self.asked, facts, self.is_waived) or self.lacks(facts):
             return None
         return len(self.facts - facts)
 
     def still_broken(self, removed, added, changed=()):
         """How many of the lines that were broken at first are so with these changes."""
-        other = System(self.defs, mended(self.wiring, removed, added, changed))
-        facts = other.least()
+        _, facts = self.with_changes(removed, added, changed)
         numbers = {line for line, _ in self.broken}
-        return sum(line in numbers for line, _ in broken(other, self.policy, facts))
+        return sum(line in numbers for line, _ in broken(self.asked, facts, self.is_waived))
 
     def mends_of_one(self):
         """Every change of one thing after which the answer is YES, with what it loses. `admit S.T none` is one of them
