@@ -18,7 +18,7 @@ _machcheck() {
     '') kind=words options='verify mend attack check make explain facts graph slots promises expand replay live mig encode decode help --help --version' ;;
     help) kind=words options='verify mend attack check make explain facts graph slots promises expand replay live mig encode decode ' ;;
     verify)
-        options='--wiring --policy --tree --brief --line --format --verbose --help'
+        options='--wiring --policy --tree --brief --line --waive --format --verbose --help'
         case $before in
         --wiring) kind=file ;;
         --policy) kind=file ;;
@@ -27,7 +27,7 @@ _machcheck() {
         esac
         ;;
     mend)
-        options='--wiring --policy --line --most --format --verbose --help'
+        options='--wiring --policy --line --waive --most --format --verbose --help'
         case $before in
         --wiring) kind=file ;;
         --policy) kind=file ;;
@@ -37,7 +37,7 @@ _machcheck() {
         esac
         ;;
     attack)
-        options='--wiring --policy --line --most --format --verbose --help'
+        options='--wiring --policy --line --waive --most --format --verbose --help'
         case $before in
         --wiring) kind=file ;;
         --policy) kind=file ;;
@@ -47,7 +47,7 @@ _machcheck() {
         esac
         ;;
     check)
-        options='--wiring --policy --cert --format --verbose --help'
+        options='--wiring --policy --cert --waive --format --verbose --help'
         case $before in
         --wiring) kind=file ;;
         --policy) kind=file ;;

@@ -37,6 +37,7 @@ _machcheck() {
                 '--tree[Prints the steps from the fact down]' \
                 '--brief[Prints the broken lines without their steps]' \
                 '--line=[Only this line of the policy]:N:' \
+                '--waive[Lets what the policy waives pass, as if it were not forbidden]' \
                 '--format=[How the answer is printed\: text, json for one JSON object, or sarif for a code host]:FORMAT:(text json sarif)' \
                 '--verbose[Prints the text of each broken line too, and shows where a fault is]' \
                 '(- *)'{-h,--help}'[Print help]' \
@@ -47,6 +48,7 @@ _machcheck() {
                 '--wiring=[Tasks, ports and their first rights]:FILE:_files' \
                 '--policy=[The forbidden holdings]:FILE:_files' \
                 '--line=[Only this line of the policy\: other lines may stay broken]:N:' \
+                '--waive[Lets what the policy waives pass, as if it were not forbidden]' \
                 '--most=[How many mends are printed, 1 to 1000000\: 10 if it is not given]:N:' \
                 '--format=[How the answer is printed\: text, or json for one JSON object]:FORMAT:(text json)' \
                 '--verbose[Shows where a fault is, and what may help to mend it]' \
@@ -58,6 +60,7 @@ _machcheck() {
                 '--wiring=[Tasks, ports and their first rights]:FILE:_files' \
                 '--policy=[The forbidden holdings]:FILE:_files' \
                 '--line=[Only this line of the policy\: its calls are printed as a script]:N:' \
+                '--waive[Lets what the policy waives pass, as if it were not forbidden]' \
                 '--most=[How many chains are played for a line, 1 to 1000000\: 30 if it is not given]:N:' \
                 '--format=[How the answer is printed\: text, or json for one JSON object]:FORMAT:(text json)' \
                 '--verbose[Shows where a fault is, and what may help to mend it]' \
@@ -69,6 +72,7 @@ _machcheck() {
                 '--wiring=[Tasks, ports and their first rights]:FILE:_files' \
                 '--policy=[The forbidden holdings]:FILE:_files' \
                 '--cert=[The certificate\: who may come to hold what]:FILE:_files' \
+                '--waive[Lets what the policy waives pass, as if it were not forbidden]' \
                 '--format=[How the answer is printed\: text, or json for one JSON object]:FORMAT:(text json)' \
                 '--verbose[Says what to do with a certificate of another wiring, and shows where a fault is]' \
                 '(- *)'{-h,--help}'[Print help]' \
